@@ -1,0 +1,3 @@
+mod Counts
+mod Cuts
+pub mod Lawfuls

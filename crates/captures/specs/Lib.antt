@@ -1,0 +1,5 @@
+pub mod Checked
+pub mod Parts
+pub mod Records
+pub mod Sources
+pub mod Times

@@ -1,0 +1,2 @@
+mod Encodings
+mod Spans
