@@ -1,0 +1,4 @@
+pub mod Found
+pub mod Table
+pub mod Upto
+pub mod Width

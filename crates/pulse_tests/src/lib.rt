@@ -1,0 +1,7 @@
+// Tests of the pulse decoder.
+#[cfg(test)]
+mod rows;
+#[cfg(test)]
+mod runs;
+#[cfg(test)]
+mod scenes;

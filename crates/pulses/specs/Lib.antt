@@ -1,0 +1,10 @@
+pub mod Intervals
+pub mod Frames
+pub mod Refusals
+pub mod Steps
+pub mod States
+pub mod Decoding
+pub mod Sent
+pub mod Series
+pub mod Running
+pub mod Exhibits

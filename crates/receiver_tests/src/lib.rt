@@ -1,0 +1,5 @@
+// Tests of the unit over captures: order, readings, refusals and runs.
+#[cfg(test)]
+mod runs;
+#[cfg(test)]
+mod units;
