@@ -1,0 +1,6 @@
+// The lines that tell what was received, byte for byte.
+mod append;
+mod closing;
+mod digits;
+pub mod line;
+pub mod report;
