@@ -11,7 +11,9 @@ use Rattle.captures.specs.declared.record.Kind.the-variants.{Counter, Log}
 use Rattle.captures.specs.declared.record.Record.{Record}
 use Rattle.captures.specs.Records.{size, records, fours, eights}
 use Rattle.captures.specs.Checked.{checked}
-use Rattle.captures.specs.Times.{stamps, stamp-of, wraps-after, record-count, unless-refused}
+use Rattle.captures.specs.declared.events.Stamp.{Stamp}
+use Rattle.captures.specs.declared.events.Stamp.the-variants.{Timed, Lost, Wrapped}
+use Rattle.captures.specs.Times.{stamps, stamp-of, wraps-after, record-count, unless-refused, events-from, last-after, all-stamps, capture-events}
 use Rattle.captures.proofs.Lawfuls.{stamps-accepted}
 
 length-stamps : (kind : Kind) (w : ℕ) (rs : List Record) → length (stamps kind w rs) ≡ length rs
@@ -56,3 +58,13 @@ count-most kind xs =
 pub record-within : (kind : Kind) (xs : List ℕ) (l : ℕ) → l < record-count kind xs → (l + 1) * size kind ≤ length xs
 record-within Counter xs l h = omega (arith, count-most Counter xs)
 record-within Log xs l h = omega (arith, count-most Log xs)
+
+-- a capture has no more events than records
+events-of-stamps : (p : ℕ) (l : Option ℕ) (ss : List Stamp) → length (events-from p l ss) ≤ length ss
+events-of-stamps p l [] = omega arith
+events-of-stamps p l (Wrapped ∷ ss) = omega (arith, events-of-stamps (p + 1) l ss)
+events-of-stamps p l (Lost ∷ ss) = omega (arith, events-of-stamps (p + 1) l ss)
+events-of-stamps p l (Timed t ∷ ss) = omega (arith, events-of-stamps (p + 1) (last-after l (Timed t)) ss)
+
+pub events-few : (kind : Kind) (xs : List ℕ) → length (capture-events kind xs) ≤ length xs / size kind
+events-few kind xs = omega (arith, events-of-stamps 0 None (all-stamps kind xs), count-most kind xs)

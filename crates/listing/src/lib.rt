@@ -2,5 +2,6 @@
 mod append;
 mod closing;
 mod digits;
+pub mod file;
 pub mod line;
 pub mod report;

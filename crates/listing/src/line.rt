@@ -84,7 +84,7 @@ pub(crate) fn put_lettered(
     first: u32,
     second: u32,
 ) -> usize
-    requires { ⌜ at + length (lettered letter first second) ≤ length (now buffer) ⌝ }
+    requires { ⌜ at + (length (decimal first) + length (decimal second) + 4) ≤ length (now buffer) ⌝ }
     ensures { λ r. ⌜ Wrote (now (buffer .entry)) at (lettered letter first second) (now (buffer .exit)) r ⌝ }
 {
     let at = put(buffer, at, letter);

@@ -1,12 +1,10 @@
-use mathlib.Core.Path.{_≡_, subst}
+use mathlib.Core.Path.{_∙_, ap}
 use mathlib.Core.List.{List, _++_}
 use Prim.Native.Nat.{ℕ}
 use Rattle.std.specs.Of.Vec.{vec-items}
-use Rattle.std.specs.Vec.{made}
 use Rattle.listing.proofs.Writes.{front-written}
 use Rattle.listing.proofs.append.append_refusal.Needs as need
 
 pub returns : need.returns
 returns c =
-    let P : List ℕ → Type 0 = λ bytes. made (c .append-front .result) (λ v. vec-items v ≡ vec-items (c .args .out) ++ bytes) in
-    subst P (front-written (c .put-refusal-count .ensures .wrote)) (c .append-front .ensures)
+    c .append-front .ensures .items ∙ ap (λ (bytes : List ℕ). vec-items (c .args .out) ++ bytes) (front-written (c .put-refusal-count .ensures .wrote))

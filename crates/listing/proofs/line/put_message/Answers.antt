@@ -5,7 +5,7 @@ use Rattle.listing.proofs.line.put_message.Needs as need
 
 pub put-lettered-requires : need.put-lettered-requires
 put-lettered-requires c κs =
-    omega (arith, length-lettered (c .args .format) (c .args .id) (c .args .«data»), half-short (c .args .id) (omega arith), half-short (c .args .«data») (omega arith))
+    omega (arith, half-short (c .args .id) (omega arith), half-short (c .args .«data») (omega arith))
 
 pub returns : need.returns
 returns c =

@@ -1,0 +1,3 @@
+// Tests of the listing of whole unit files.
+#[cfg(test)]
+mod files;
