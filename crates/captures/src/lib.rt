@@ -1,4 +1,6 @@
 // Captures of falling edges: the events that their records become, and parts of them.
+#![tactic(auto)]
+
 pub mod absolute;
 pub mod counter;
 pub mod events;

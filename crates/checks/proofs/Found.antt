@@ -1,12 +1,12 @@
 -- The four-bit check finds a change of one nibble, and of two neighbours by at most one each.
 -- Its strength lies in the table: the entries of two values differ, and those of values that differ by a slight change differ by more than one.
-use Rattle.std.proofs.Common.{◌≡◌, ℕ, ◌+◌, ◌%◌, ◌<◌, ◌≤◌, Bool, true, false, ◌&&◌, ◌||◌, eqb, leb, List, [], ◌∷◌, ◌++◌, map, length, sym, refl, ap, ◌∙◌, subst, ap₂, inl, inr, arith, lit<}
+use Rattle.std.proofs.Common.{◌≡◌, ℕ, ◌+◌, ◌%◌, ◌<◌, Bool, true, false, ◌&&◌, ◌||◌, eqb, leb, List, [], ◌∷◌, ◌++◌, map, length, sym, refl, ap, ◌∙◌, subst, ap₂, inl, inr, arith, lit<}
 use lib.Bits.{bit_xor, xor_comm, xor_assoc, xor_self, xor_zero_l, xor_zero_r}
 use Rattle.std.proofs.lemmas.Nat.{xor_lt}
 use Rattle.std.proofs.lemmas.List.{same_from_push}
 use Rattle.std.proofs.lemmas.Bool.{le-leb, eqb-true, eq-eqb, and_from, true≢false}
-use Rattle.checks.specs.Checks.{entry, through, check, check4}
-use Rattle.checks.specs.Found.{Nibbles, fitting, Near, OneChanged, MovedFirst, MovedNeighbours, OneChangedNibbleFound, MovedNeighboursFound}
+use Rattle.checks.specs.Checks.{entry, check, check4}
+use Rattle.checks.specs.Found.{Nibbles, Near, OneChanged, MovedFirst, MovedNeighbours, OneChangedNibbleFound, MovedNeighboursFound}
 use Rattle.checks.proofs.Upto.{upto, upto_at}
 use Rattle.checks.proofs.Width.{entry_below, check_below, cut_leaves}
 

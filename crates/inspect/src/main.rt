@@ -1,4 +1,6 @@
 // Says what a unit file on standard input holds, or why it is refused.
+#![tactic(auto)]
+
 use anyhow::anyhow;
 use captures::absolute::AbsoluteLog;
 use captures::counter::CounterCapture;

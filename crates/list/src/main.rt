@@ -1,4 +1,6 @@
 // Lists what both heads of a unit file on standard input sent, or why the file is refused.
+#![tactic(auto)]
+
 use anyhow::anyhow;
 use listing::file::{Verdict, list, room_for};
 use std::io::{Read, Write};

@@ -1,4 +1,6 @@
 // The lines that tell what was received, byte for byte.
+#![tactic(auto)]
+
 mod append;
 mod closing;
 mod digits;

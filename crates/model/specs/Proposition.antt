@@ -1,5 +1,5 @@
 -- That a list is lawful can be shown in one way only, so that a struct may keep it as a fact about itself.
-use Rattle.std.specs.Prelude.{◌≡◌, List, [], ◌∷◌, refl}
+use Rattle.std.specs.Prelude.{List, [], ◌∷◌, refl}
 use Rattle.std.proofs.Math.Bridge.{le_prop}
 use Rattle.model.specs.declared.event.Event.{Event}
 use Rattle.model.specs.declared.event.Event.TheVariants.{Edge, Break}

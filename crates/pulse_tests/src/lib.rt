@@ -1,4 +1,6 @@
 // Tests of the pulse decoder.
+#![tactic(auto)]
+
 #[cfg(test)]
 mod rows;
 #[cfg(test)]

@@ -1,4 +1,6 @@
 // Tests of the two checks, the two serial formats and the window of pairs.
+#![tactic(auto)]
+
 #[cfg(test)]
 mod check_vectors;
 pub mod doublet;

@@ -1,4 +1,6 @@
 // Counts what both heads of a unit file on standard input sent: frames, and faults of the pulses, for each channel.
+#![tactic(auto)]
+
 use anyhow::anyhow;
 use captures::absolute::AbsoluteLog;
 use captures::counter::CounterCapture;

@@ -1,4 +1,4 @@
-use Rattle.std.proofs.Common.{◌≡◌, ℕ, ◌+◌, ◌%◌, ◌^◌, ◌<◌, List, map, length, get_or, drop, sym, ◌∙◌, ap₂, arith}
+use Rattle.std.proofs.Common.{ℕ, ◌+◌, ◌%◌, ◌^◌, ◌<◌, List, map, length, get_or, drop, sym, ◌∙◌, ap₂}
 use lib.Bits.{bit_xor}
 use Rattle.std.proofs.lemmas.Nat.{xor_lt, mod_below, pow_pos}
 use Rattle.std.proofs.lemmas.List.{at_drop_more, at_drop_all}
@@ -10,7 +10,7 @@ loop-group-preserved g c =
     let m = g.C.Checking in
     let cut : List ℕ → List ℕ = map (λ v. v % 2 ^ m.width) in
     let from : ℕ → List ℕ → ℕ = λ v vs. through m.width m.low v (cut vs) in
-    let i = c.loop-group.group_index in
+    let i = c.loop-group.group-index in
     let xs = c.args.groups.now in
     let v = c.loop-group.value in
     let h : i < length xs = c.loop-group-test.true in
@@ -24,7 +24,7 @@ pub returns : goal.returns
 returns g c =
     let m = g.C.Checking in
     let cut : List ℕ → List ℕ = map (λ v. v % 2 ^ m.width) in
-    let i = c.loop-group.group_index in
+    let i = c.loop-group.group-index in
     let xs = c.args.groups.now in
     let v = c.loop-group.value in
     record {
