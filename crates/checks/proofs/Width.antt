@@ -1,7 +1,7 @@
 -- What both checks share, over the width.
 use Rattle.std.proofs.Common.{◌≡◌, ℕ, zero, suc, ◌-◌, ◌*◌, ◌/◌, ◌%◌, ◌^◌, ◌<◌, ◌⊎◌, List, [], ◌∷◌, map, length, sym, refl, ap, ◌∙◌, ap₂, inl, inr, ⊎_elim, add-zero, mod-eq_of_lt, mul-zero, mul-one, arith}
 use lib.Bits.{bit_xor, xor_block, xor_comm, xor_assoc, xor_self, xor_zero_r}
-use Rattle.std.specs.List.{AllByRecursion as All}
+use Rattle.std.specs.List.{AllByRecursion}
 use Rattle.std.proofs.lemmas.Nat.{xor_lt, xor_shr, xor_mod, mod_below, pow_pos}
 use Rattle.std.proofs.lemmas.Bool.{cases_lt}
 use Rattle.checks.specs.Checks.{shifted, raised, entry, through, check}
@@ -71,20 +71,20 @@ pub entry_below : (w low v : ℕ) → low < 2 ^ w → v < 2 ^ w → entry w low 
 unfolding entry
 entry_below w low v h k = raised_below w low w v h k
 
-through_below : (w low value : ℕ) (vs : List ℕ) → low < 2 ^ w → value < 2 ^ w → All (λ v. v < 2 ^ w) vs → through w low value vs < 2 ^ w
+through_below : (w low value : ℕ) (vs : List ℕ) → low < 2 ^ w → value < 2 ^ w → AllByRecursion (λ v. v < 2 ^ w) vs → through w low value vs < 2 ^ w
 through_below w low value [] h k all = k
 through_below w low value (v ∷ vs) h k all =
     through_below w low (bit_xor (entry w low value) v) vs h (xor_lt w (entry w low value) v (entry_below w low value h k) all.0) all.1
 
-pub check_below : (w low start : ℕ) (vs : List ℕ) → low < 2 ^ w → start < 2 ^ w → All (λ v. v < 2 ^ w) vs → check w low start vs < 2 ^ w
+pub check_below : (w low start : ℕ) (vs : List ℕ) → low < 2 ^ w → start < 2 ^ w → AllByRecursion (λ v. v < 2 ^ w) vs → check w low start vs < 2 ^ w
 check_below w low start vs h k all = entry_below w low (through w low start vs) h (through_below w low start vs h k all)
 
 -- cutting groups of the width to the width leaves them
-pub cut_leaves : (n : ℕ) (vs : List ℕ) → All (λ v. v < n) vs → map (λ v. v % n) vs ≡ vs
+pub cut_leaves : (n : ℕ) (vs : List ℕ) → AllByRecursion (λ v. v < n) vs → map (λ v. v % n) vs ≡ vs
 cut_leaves n [] all = refl
 cut_leaves n (v ∷ vs) all = ap₂ (λ (x : ℕ) (xs : List ℕ). x ∷ xs) (mod-eq_of_lt all.0) (cut_leaves n vs all.1)
 
 -- and groups cut to the width are of the width
-pub cut_below : (n : ℕ) (vs : List ℕ) → 0 < n → All (λ v. v < n) (map (λ v. v % n) vs)
+pub cut_below : (n : ℕ) (vs : List ℕ) → 0 < n → AllByRecursion (λ v. v < n) (map (λ v. v % n) vs)
 cut_below n [] h = tt
 cut_below n (v ∷ vs) h = (mod_below v n h, cut_below n vs h)

@@ -1,11 +1,11 @@
 -- Which changes of nibbles the four-bit check finds.
 use Rattle.std.specs.Prelude.{◌≡◌, ℕ, ◌+◌, ◌<◌, ◌≤◌, ◌⊎◌, List, [], ◌∷◌, ◌++◌, length}
-use Rattle.std.specs.List.{AllByRecursion as All}
+use Rattle.std.specs.List.{AllByRecursion}
 use Rattle.checks.specs.Checks.{check4}
 
 -- all are below 16
 abbrev pub Nibbles : List ℕ → Type 0
-Nibbles vs = All (λ v. v < 16) vs
+Nibbles vs = AllByRecursion (λ v. v < 16) vs
 
 -- data nibbles, followed by the check nibble that fits them
 abbrev pub fitting : List ℕ → List ℕ

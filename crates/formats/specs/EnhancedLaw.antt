@@ -1,7 +1,7 @@
 -- What holds of the enhanced format.
 use Rattle.std.specs.Prelude.{◌≡◌, ℕ, ◌<◌, Bool, true, false, ◌&&◌, eqb, List, [], ◌∷◌, map, length, Some, None, refl}
 use Rattle.std.proofs.Common.{sym, ap, ap₂, subst, ◌∙◌, arith, lit<, lit≤}
-use Rattle.std.specs.List.{AllByRecursion as All}
+use Rattle.std.specs.List.{AllByRecursion}
 use Rattle.std.proofs.lemmas.Bool.{eq-eqb, cond-true}
 use Rattle.checks.specs.Checks.{check6}
 use Rattle.checks.proofs.Width.{check_below}
@@ -19,7 +19,7 @@ use Rattle.formats.specs.Layouts.{lawful_by_layout, all_spelled, told_as, told_c
 pub enhanced_lawful : LawfulFormat enhanced
 enhanced_lawful = lawful_by_layout layout check6 content (lit≤ tt) (lit≤ tt) refl
 
-check6_below : (vs : List ℕ) → All (λ v. v < 64) vs → check6 vs < 64
+check6_below : (vs : List ℕ) → AllByRecursion (λ v. v < 64) vs → check6 vs < 64
 unfolding check6
 check6_below vs small = check_below 6 0b011001 21 vs (lit< tt) (lit< tt) small
 
@@ -32,7 +32,7 @@ told_within_the_fields ps m e =
     let is : content ps ≡ m = told_content (lawful_by layout check6 ps) (content ps) m e in
     subst Within is (shaped_within (configuration_of (read ps (bit3 7))) ps)
 
-pub groups_wide : All (λ at. length at ≡ 6) layout.covered
+pub groups_wide : AllByRecursion (λ at. length at ≡ 6) layout.covered
 groups_wide = (refl, (refl, (refl, (refl, tt))))
 
 abbrev message : Configuration → ℕ → ℕ → EnhancedMessage

@@ -3,7 +3,7 @@ use Rattle.std.specs.Prelude.{◌≡◌, ℕ, zero, suc, ◌+◌, ◌%◌, ◌^�
 use Rattle.std.proofs.Common.{sym, ap, ap₂, subst, ◌∙◌, inl, inr, arith}
 use Rattle.std.proofs.lemmas.List.{get_or-take, get_or-drop, get_or_append_left, drop_more}
 use Rattle.std.proofs.lemmas.Bool.{and_parts, and_from, cond-true, eq-eqb, or_cases, eqb-true, ltb-true, not-true, both_ways, true≢false}
-use Rattle.std.specs.List.{AllByRecursion as All}
+use Rattle.std.specs.List.{AllByRecursion}
 use Rattle.checks.proofs.Width.{cut_leaves}
 use Rattle.checks.proofs.Upto.{upto, upto_at}
 use Rattle.serial.specs.declared.pair.Pair.{Pair}
@@ -82,7 +82,7 @@ told_content true x m e = cc
 told_content false x m e = let z : ◌≡◌ {A = ℕ} 0 1 = cc in absurd (omega arith)
 
 -- groups of w bits are below 2^w
-pub all_spelled : (w : ℕ) (ps : List Pair) (groups : List (List Position)) → All (λ at. length at ≡ w) groups → All (λ v. v < 2 ^ w) (map (spelled ps) groups)
+pub all_spelled : (w : ℕ) (ps : List Pair) (groups : List (List Position)) → AllByRecursion (λ at. length at ≡ w) groups → AllByRecursion (λ v. v < 2 ^ w) (map (spelled ps) groups)
 all_spelled w ps [] wide = tt
 all_spelled w ps (at ∷ groups) wide = (subst (λ (k : ℕ). spelled ps at < 2 ^ k) wide.0 (spelled_below ps at), all_spelled w ps groups wide.1)
 
@@ -141,7 +141,7 @@ part_clear (suc n) k ps h =
     ∙ ap (λ (b : Bool). not (get_or ps k blank).high && b) (part_clear n (k + 1) ps (omega arith))
 
 -- the check as the code takes it, of groups cut to the width of the check
-pub check_agreed : (l : Layout) (check : List ℕ → ℕ) (w : ℕ) (ps : List Pair) → All (λ at. length at ≡ w) l.covered → (groups : List ℕ) (checked sent : ℕ)
+pub check_agreed : (l : Layout) (check : List ℕ → ℕ) (w : ℕ) (ps : List Pair) → AllByRecursion (λ at. length at ≡ w) l.covered → (groups : List ℕ) (checked sent : ℕ)
     → groups ≡ map (spelled ps) l.covered → checked ≡ check (map (λ v. v % 2 ^ w) groups) → sent ≡ spelled ps l.check_bits → (checked == sent) ≡ check_fits l check ps
 check_agreed l check w ps wide groups checked sent g e f =
     ap₂ nat_eq

@@ -1,7 +1,7 @@
 -- What holds of the short format.
 use Rattle.std.specs.Prelude.{◌≡◌, ℕ, ◌<◌, Bool, true, ◌&&◌, eqb, List, [], ◌∷◌, map, length, Some, None, refl}
 use Rattle.std.proofs.Common.{sym, ap, ap₂, subst, ◌∙◌, arith, lit≤}
-use Rattle.std.specs.List.{AllByRecursion as All}
+use Rattle.std.specs.List.{AllByRecursion}
 use Rattle.std.proofs.lemmas.Bool.{eq-eqb, cond-true}
 use Rattle.checks.specs.Checks.{check4}
 use Rattle.checks.proofs.Found.{check4_below}
@@ -22,7 +22,7 @@ told_within_the_fields ps m e =
     let is : content ps ≡ m = told_content (lawful_by layout check4 ps) (content ps) m e in
     subst Within is (record { id_fits = spelled_below ps id_bits; data_fits = spelled_below ps data_bits })
 
-pub groups_wide : All (λ at. length at ≡ 4) layout.covered
+pub groups_wide : AllByRecursion (λ at. length at ≡ 4) layout.covered
 groups_wide = (refl, (refl, (refl, tt)))
 
 pub each_message_has_its_list : EachMessageHasItsList

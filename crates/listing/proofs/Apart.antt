@@ -1,6 +1,6 @@
 -- Lines tell reports apart: the fields of a line can be read back, and a report from its fields.
 use Rattle.std.proofs.Common.{◌≡◌, ℕ, zero, suc, ◌+◌, ◌*◌, ◌/◌, ◌%◌, ◌^◌, ◌<◌, ◌≤◌, cond, eqb, ltb, List, [], ◌∷◌, ◌++◌, map, length, get_or, take, drop, codes, decimal, sym, refl, ap, ◌∙◌, subst, inl, inr, append_assoc, zero-add, arith, lit<}
-use Rattle.std.specs.List.{range_with_len, AllByRecursion as All}
+use Rattle.std.specs.List.{range_with_len, AllByRecursion}
 use Rattle.std.proofs.lemmas.List.FromFn.{get_or-map-range_with_len}
 use Rattle.std.proofs.lemmas.Fmt.{decimal_by_steps, decimal_injective}
 use Rattle.std.proofs.ByRecursion.{All-append}
@@ -19,7 +19,7 @@ use Rattle.listing.specs.Lines.{hex_digit, side_letter, kind_letter, place_of, d
 
 -- bytes of a field: none is a space or a line feed
 abbrev Plain : List ℕ → Type 0
-Plain field = All (λ c. 32 < c) field
+Plain field = AllByRecursion (λ c. 32 < c) field
 
 -- what stands before the first byte that is not plain, and from it on
 parted : (f g xs ys : List ℕ) (c d : ℕ) → Plain f → Plain g → c ≤ 32 → d ≤ 32 → f ++ (c ∷ xs) ≡ g ++ (d ∷ ys) → (f ≡ g) × ((c ∷ xs) ≡ (d ∷ ys))
@@ -40,7 +40,7 @@ parted_field f g (a ∷ fs) [] p q e = parted f g (a ++ following fs) [] 32 10 p
 parted_field f g (a ∷ fs) (b ∷ gs) p q e = parted f g (a ++ following fs) (b ++ following gs) 32 32 p q (lit< tt) (lit< tt) e
 
 -- the fields that follow
-fields_told : (fs gs : List (List ℕ)) → All Plain fs → All Plain gs → following fs ≡ following gs → fs ≡ gs
+fields_told : (fs gs : List (List ℕ)) → AllByRecursion Plain fs → AllByRecursion Plain gs → following fs ≡ following gs → fs ≡ gs
 fields_told [] [] p q e = refl
 fields_told [] (g ∷ gs) p q e = let z : ◌≡◌ {A = ℕ} 10 32 = cc in absurd (omega arith)
 fields_told (f ∷ fs) [] p q e = let z : ◌≡◌ {A = ℕ} 32 10 = cc in absurd (omega arith)
@@ -74,7 +74,7 @@ hex_told v w h k e =
     ]
 
 abbrev Nibbles : List ℕ → Type 0
-Nibbles vs = All (λ v. v < 16) vs
+Nibbles vs = AllByRecursion (λ v. v < 16) vs
 
 digits_plain : (vs : List ℕ) → Nibbles vs → Plain (map hex_digit vs)
 digits_plain [] h = tt
@@ -147,7 +147,7 @@ kind_plain (Short place message) = lit< tt
 kind_plain (Enhanced place message) = lit< tt
 kind_plain (Fault fault) = lit< tt
 
-details_plain : (n : ℕ) (report : LineReport) → InTypes report → All Plain (details n report)
+details_plain : (n : ℕ) (report : LineReport) → InTypes report → AllByRecursion Plain (details n report)
 details_plain n (Frame row) h =
     ((hex_plain (row.status % 16) (omega arith), tt), (digits_plain (take n (unpacked row.packed)) (take_nibbles n (unpacked row.packed) (unpacked_nibbles row.packed)), tt))
 details_plain n (Short place message) h =
@@ -160,7 +160,7 @@ details_plain n (Fault fault) h = (decimal_plain (number fault.kind) (number_bel
 abbrev fields : ℕ → ℕ → LineReport → List (List ℕ)
 fields n time report = decimal time ∷ (kind_letter report ∷ []) ∷ decimal (place_of report) ∷ details n report
 
-fields_plain : (n time : ℕ) (report : LineReport) → time < 2 ^ 40 → InTypes report → All Plain (fields n time report)
+fields_plain : (n time : ℕ) (report : LineReport) → time < 2 ^ 40 → InTypes report → AllByRecursion Plain (fields n time report)
 fields_plain n time report t h =
     (decimal_plain time (omega arith), ((kind_plain report, tt), (decimal_plain (place_of report) (place_below report h), details_plain n report h)))
 

@@ -1,7 +1,7 @@
 -- The law has instances.
 use Rattle.std.proofs.Common.{◌≡◌, ℕ, suc, ◌+◌, ◌*◌, ◌<◌, ◌≤◌, Bool, true, false, cond, List, [], ◌∷◌, ◌++◌, map, length, get_or, take, drop, Some, sym, refl, ap, lit<, lit≤}
 use lib.Seq.{split_at}
-use Rattle.std.specs.List.{AllByRecursion as All}
+use Rattle.std.specs.List.{AllByRecursion}
 use Rattle.std.proofs.lemmas.Bool.{true≢false}
 use Rattle.model.specs.declared.event.Event.TheVariants.{Edge, Break}
 use Rattle.model.specs.declared.fault.FaultKind.TheVariants as kind
@@ -46,12 +46,12 @@ small_status false false = lit< tt
 sendable : (x : Pair) → Sendable shortest_pulse (carrying x)
 sendable x = record { status_small = small_status x.high x.low; nibbles_small = (lit< tt, tt); count = refl }
 
-all_sendable : (xs : List Pair) → All (Sendable shortest_pulse) (map carrying xs)
+all_sendable : (xs : List Pair) → AllByRecursion (Sendable shortest_pulse) (map carrying xs)
 all_sendable [] = tt
 all_sendable (x ∷ xs) = (sendable x, all_sendable xs)
 
 module _ (tick : ℕ) (passes : window shortest_pulse (56 * tick) ≡ true) where
-  clean_frames : (p : ℕ) (xs : List Pair) → All (Clean shortest_pulse) (frames_with tick p xs)
+  clean_frames : (p : ℕ) (xs : List Pair) → AllByRecursion (Clean shortest_pulse) (frames_with tick p xs)
   clean_frames p xs =
       let z = exact_series_clean shortest_pulse tick p p 0 (map carrying xs) (carrying blank) 0 passes (all_sendable xs) (sendable blank) (lit< tt) in
       rw z.1 at z.0.clean

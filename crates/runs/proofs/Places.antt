@@ -1,7 +1,7 @@
 -- Places: a frame starts at an edge before the event that ends it, so the pairs that a channel keeps after an edge are of frames
 -- that start before that edge; the frames of a series start at its first edge or later.
 use Rattle.std.proofs.Common.{◌≡◌, ℕ, suc, ◌+◌, ◌-◌, ◌<◌, ◌≤◌, cond, eqb, ltb, leb, List, [], ◌∷◌, ◌++◌, map, length, drop, sym, subst, append_assoc, arith}
-use Rattle.std.specs.List.{AllByRecursion as All}
+use Rattle.std.specs.List.{AllByRecursion}
 use Rattle.std.proofs.ByRecursion.{All-push, All-drop}
 use Rattle.std.proofs.lemmas.Bool.{cond_both}
 use Rattle.model.specs.declared.settings.Settings.{Settings}
@@ -71,10 +71,10 @@ module _ (s : Settings) (b c : ℕ) (up : b ≤ c) where
 
 -- pairs of frames that start below the place b, and of frames that start there or later
 abbrev pub Earlier : ℕ → List Kept → Type 0
-Earlier b ks = All (λ k. k.place < b) ks
+Earlier b ks = AllByRecursion (λ k. k.place < b) ks
 
 abbrev pub Onward : ℕ → List Kept → Type 0
-Onward b ks = All (λ k. b ≤ k.place) ks
+Onward b ks = AllByRecursion (λ k. b ≤ k.place) ks
 
 earlier_after : (b size : ℕ) (ks : List Kept) (o : Outcome) → Earlier b ks → StartsBelow b o → Earlier b (kept_after size ks o)
 earlier_after b size ks Quiet h l = h
@@ -85,7 +85,7 @@ earlier_after b size ks (Framed r) h l =
 earlier_after b size ks (Failed f) h l = tt
 
 module _ {M : Type 0} (rules : Rules M) (b : ℕ) where
-  earlier_heard : (c : ChannelState) (es : List Event) → All (λ e. place_of e < b) es → EdgesBelow b c.pulses → Earlier b c.kept
+  earlier_heard : (c : ChannelState) (es : List Event) → AllByRecursion (λ e. place_of e < b) es → EdgesBelow b c.pulses → Earlier b c.kept
       → EdgesBelow b (heard_after rules c es).pulses × Earlier b (heard_after rules c es).kept
   earlier_heard c [] a h k = (h, k)
   earlier_heard c (e ∷ es) a h k =
@@ -93,7 +93,7 @@ module _ {M : Type 0} (rules : Rules M) (b : ℕ) where
       earlier_heard (given rules c e) es a.1 d.1 (earlier_after b rules.format.size c.kept (outcome_of rules c e) k d.0)
 
   -- after events below the place b, and any event then
-  pub earlier_kept : (es : List Event) → All (λ e. place_of e < b) es → (e : Event) → Earlier b (given rules (heard_after rules fresh es) e).kept
+  pub earlier_kept : (es : List Event) → AllByRecursion (λ e. place_of e < b) es → (e : Event) → Earlier b (given rules (heard_after rules fresh es) e).kept
   earlier_kept es a e =
       let c : ChannelState = heard_after rules fresh es in
       let r = earlier_heard fresh es a tt tt in
@@ -105,18 +105,18 @@ precedes_one : (e : Event) (xs : List Event) (f : Event) (ys : List Event) → P
 precedes_one e [] f ys h = h.0.0
 precedes_one e (x ∷ xs) f ys h = precedes_one e xs f ys h.1
 
-pub lawful_before : (xs : List Event) (e : Event) (ys : List Event) → Lawful (xs ++ e ∷ ys) → All (λ x. place_of x < place_of e) xs
+pub lawful_before : (xs : List Event) (e : Event) (ys : List Event) → Lawful (xs ++ e ∷ ys) → AllByRecursion (λ x. place_of x < place_of e) xs
 lawful_before [] e ys h = tt
 lawful_before (x ∷ xs) e ys h = (precedes_one x xs e ys h.1, lawful_before xs e ys h.2)
 
 abbrev Above : ℕ → List Event → Type 0
-Above u es = All (λ e. u < place_of e) es
+Above u es = AllByRecursion (λ e. u < place_of e) es
 
 precedes_above : (e : Event) (es : List Event) → PrecedesAll e es → Above (place_of e) es
 precedes_above e [] h = tt
 precedes_above e (f ∷ es) h = (h.0.0, precedes_above e es h.1)
 
-pub lawful_above : (xs : List Event) (e : Event) (ys : List Event) → Lawful (xs ++ e ∷ ys) → All (λ y. place_of e < place_of y) ys
+pub lawful_above : (xs : List Event) (e : Event) (ys : List Event) → Lawful (xs ++ e ∷ ys) → AllByRecursion (λ y. place_of e < place_of y) ys
 lawful_above [] e ys h = precedes_above e ys h.1
 lawful_above (x ∷ xs) e ys h = lawful_above xs e ys h.2
 
@@ -129,7 +129,7 @@ past_edges : (b t : ℕ) (xs : List NibblePulse) (y : NibblePulse) (es : List Ev
 past_edges b t [] y es h = (h.0, h.1)
 past_edges b t (x ∷ xs) y es h = past_edges b (t + x.interval) xs y es h.1
 
-pub sent_onward : (b u t : ℕ) (fs : List Sent) (more : List Event) → b ≤ u → All (λ e. b < place_of e) (series t fs ++ more) → Onward b (kept_sent u fs)
+pub sent_onward : (b u t : ℕ) (fs : List Sent) (more : List Event) → b ≤ u → AllByRecursion (λ e. b < place_of e) (series t fs ++ more) → Onward b (kept_sent u fs)
 sent_onward b u t [] more l h = tt
 sent_onward b u t (f ∷ fs) more l h =
     let es : List Event = series (next_time t f) fs in

@@ -1,6 +1,6 @@
 -- Serial messages come out whole.
 use Rattle.std.proofs.Common.{◌≡◌, ℕ, ◌<◌, true, false, cond, List, [], ◌∷◌, ◌++◌, map, length, take, drop, Some, None, Option, sym, refl, ap, ◌∙◌, subst, ap₂, arith}
-use Rattle.std.specs.List.{AllByRecursion as All}
+use Rattle.std.specs.List.{AllByRecursion}
 use Rattle.std.proofs.lemmas.Bool.{cond_both}
 use Rattle.model.specs.declared.event.Event.{Event}
 use Rattle.model.specs.declared.event.Event.TheVariants.{Edge}
@@ -109,7 +109,7 @@ module _ {M : Type 0} (rules : Rules M) where
       let b = begins f u ch.kept os earlier got.no_fault_after_calibration in
       let onward : Onward u (kept_sent u fs) =
       sent_onward u u c.time fs (take z.some (frame_edges (series_end c.time fs) z.cut_short)) (omega arith)
-      (subst (λ (i : List Event). All (λ e. u < place_of e) i) z.are (lawful_above before (Edge u c.time) rest around)) in
+      (subst (λ (i : List Event). AllByRecursion (λ e. u < place_of e) i) z.are (lawful_above before (Edge u c.time) rest around)) in
       ap (λ (tr : List (Entry M)). starting_from u (messages_of tr)) (cut_rest rules es c)
       ∙ ap (starting_from u) (heard_told ch rest ∙ b.told ∙ ap (λ (rs : List FrameRow). told_along f b.old (map kept_of rs)) got.frames_exactly)
       ∙ along_is f law u b.old [] (kept_sent u fs) b.old (λ y. refl) b.earlier tt onward

@@ -1,6 +1,6 @@
 -- The law of every run of a unit. Whatever both sources give and whatever is called, at the start and after each call, of each channel.
 use Rattle.std.specs.Prelude.{◌≡◌, ℕ, ◌+◌, ◌-◌, ◌<◌, ◌≤◌, cond, ◌&&◌, List, [], ◌∷◌, ◌++◌, map, length, take, drop, replicate, Some, None, Option, nat_le, slice_index}
-use Rattle.std.specs.List.{AllByRecursion as All}
+use Rattle.std.specs.List.{AllByRecursion}
 use Rattle.model.specs.declared.settings.Settings.{Settings}
 use Rattle.model.specs.declared.event.Event.{Event}
 use Rattle.model.specs.declared.event.Event.TheVariants.{Edge}
@@ -164,7 +164,7 @@ BelowSerial Serial = ⊥
 
 -- a fault of the pulses is of a layer below the serial one, and has the place of the event that showed it
 abbrev pub FaultsTold : {M : Type 0} → List (Entry M) → Type 0
-FaultsTold tr = All (λ x. (f : Fault) → x.said.pulse ≡ Failed f → BelowSerial (layer f.kind) × (f.place ≡ place_of x.event)) tr
+FaultsTold tr = AllByRecursion (λ x. (f : Fault) → x.said.pulse ≡ Failed f → BelowSerial (layer f.kind) × (f.place ≡ place_of x.event)) tr
 
 -- the closing figures are the numbers of frames and of faults of the pulses among the reports, each stopped at its greatest
 pub record ClosingTold (f : Figures) (os : List Outcome) : Type 0 where

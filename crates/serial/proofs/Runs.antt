@@ -1,7 +1,7 @@
 -- The law of a window over runs of frames: lawful lists joined are told whole, and nothing else is said.
 use Rattle.std.proofs.Common.{◌≡◌, ℕ, zero, suc, ◌+◌, ◌-◌, ◌%◌, ◌<◌, ◌≤◌, Bool, true, false, cond, T, List, [], ◌∷◌, ◌++◌, map, length, take, drop, replicate, is_some, Some, None, Option, sym, refl, ap, ◌∙◌, subst, ap₂, append_assoc, append-nil, mod-eq_of_lt, zero-add, arith, length-append, length-drop}
 use native.Mathlib.Nat.{add-mod_left, add-mod_right, zero-mod, mod-add-mod}
-use Rattle.std.specs.List.{AllByRecursion as All}
+use Rattle.std.specs.List.{AllByRecursion}
 use Rattle.std.proofs.ByRecursion.{All-push}
 use Rattle.std.proofs.lemmas.List.{drop-drop, drop-append-le, drop_at, take_at, take-append-drop, take-map, drop-map, map-append, length-map}
 use Rattle.std.proofs.lemmas.Bool.{cond-false, cond-true, true≢false}

@@ -1,6 +1,6 @@
 -- What a serial format means, and the law of all formats.
 use Rattle.std.specs.Prelude.{◌≡◌, ℕ, ◌+◌, ◌%◌, ◌≤◌, Bool, T, List, [], ◌∷◌, ◌++◌, length, take, drop, is_some, Option, ◌≢◌}
-use Rattle.std.specs.List.{AllByRecursion as All}
+use Rattle.std.specs.List.{AllByRecursion}
 use Rattle.serial.specs.declared.pair.Pair.{Pair}
 
 -- how many pairs a message has, which lists of pairs match the framing, which are lawful (the framing matches and the check fits),
@@ -18,7 +18,7 @@ joined (l ∷ ls) = l ++ joined ls
 
 -- each of the lists is lawful
 abbrev pub AllLawful : {M : Type 0} → Format M → List (List Pair) → Type 0
-AllLawful f ls = All (λ l. T (f.lawful l)) ls
+AllLawful f ls = AllByRecursion (λ l. T (f.lawful l)) ls
 
 -- however lawful lists are joined, as many neighbouring pairs as a message has do not match the framing
 -- if they begin inside one of the lists, past its first pair

@@ -1,6 +1,6 @@
 -- The laws speak of something.
 use Rattle.std.proofs.Common.{◌≡◌, ℕ, ◌+◌, ◌*◌, ◌<◌, ◌≤◌, true, List, [], ◌∷◌, ◌++◌, length, sym, refl, ap, ◌∙◌, arith, lit<, lit≤}
-use Rattle.std.specs.List.{AllByRecursion as All}
+use Rattle.std.specs.List.{AllByRecursion}
 use Rattle.std.proofs.ByRecursion.{All-push}
 use Rattle.model.specs.declared.settings.Settings.{Settings}
 use Rattle.checks.specs.Checks.{entry, check4}
@@ -18,11 +18,11 @@ use Rattle.series.proofs.Checking.{check_is_a_nibble}
 even : (a : ℕ) → Within (1 * 0) (1 * a) a
 even a = (omega arith, omega arith)
 
-all_even : (tick p : ℕ) (vs : List ℕ) → All (λ x. Within (1 * 0) (1 * x.interval) ((12 + x.value) * tick)) (exact_pulses tick p vs)
+all_even : (tick p : ℕ) (vs : List ℕ) → AllByRecursion (λ x. Within (1 * 0) (1 * x.interval) ((12 + x.value) * tick)) (exact_pulses tick p vs)
 all_even tick p [] = tt
 all_even tick p (v ∷ vs) = (even ((12 + v) * tick), all_even tick (p + 1) vs)
 
-all_small : (tick p : ℕ) (vs : List ℕ) → All (λ v. v < 16) vs → All (λ x. x.value < 16) (exact_pulses tick p vs)
+all_small : (tick p : ℕ) (vs : List ℕ) → AllByRecursion (λ v. v < 16) vs → AllByRecursion (λ x. x.value < 16) (exact_pulses tick p vs)
 all_small tick p [] h = tt
 all_small tick p (v ∷ vs) h = (h.0, all_small tick (p + 1) vs h.1)
 
@@ -58,7 +58,7 @@ module _ (s : Settings) (tick : ℕ) (passes : window s (56 * tick) ≡ true) wh
         fits = ap (frame_check s) (sym (exact_values tick (p + 2) x.nibbles));
       }
 
-  all_clean : (p : ℕ) (xs : List Content) → All (Sendable s) xs → All (Clean s) (exact_frames s tick p xs)
+  all_clean : (p : ℕ) (xs : List Content) → AllByRecursion (Sendable s) xs → AllByRecursion (Clean s) (exact_frames s tick p xs)
   all_clean p [] h = tt
   all_clean p (x ∷ xs) h = (exact_clean p x h.0, all_clean (p + 3 + s.nibbles) xs h.1)
 

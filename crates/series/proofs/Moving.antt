@@ -1,6 +1,6 @@
 -- A frame with one edge moved: its pulses as they came, and what they give.
 use Rattle.std.proofs.Common.{◌≡◌, ℕ, zero, suc, ◌+◌, ◌-◌, ◌*◌, ◌/◌, ◌<◌, ◌≤◌, Bool, true, false, ◌⊎◌, List, [], ◌∷◌, ◌++◌, map, length, take, sym, refl, ap, ◌∙◌, subst, ap₂, inl, inr, mul-le-mul_right, add-mul, arith, length-take}
-use Rattle.std.specs.List.{AllByRecursion as All}
+use Rattle.std.specs.List.{AllByRecursion}
 use Rattle.std.proofs.lemmas.List.{length-append, length-map}
 use Rattle.std.proofs.ByRecursion.{All-take}
 use Rattle.std.proofs.lemmas.Nat.{div_below, le-div}
@@ -45,7 +45,7 @@ long_enough c m x h r =
     let least : 12 * (2 * c) ≤ (12 + x.value) * (2 * c) = mul-le-mul_right (2 * c) (omega arith) in
     omega (arith, r.lo)
 
-got : (c t : ℕ) (xs : List NibblePulse) {es es' : List Event} → All (Measures c) xs → OneMoved c es es' → es ≡ edges t xs → Got c t xs es'
+got : (c t : ℕ) (xs : List NibblePulse) {es es' : List Event} → AllByRecursion (Measures c) xs → OneMoved c es es' → es ≡ edges t xs → Got c t xs es'
 got c t [] r (here m tick near) e = absurd (let z : ◌≡◌ {A = ℕ} 0 1 = cc in omega arith)
 got c t (x ∷ []) r (here m tick near) e = absurd (let z : ◌≡◌ {A = ℕ} 0 1 = cc in omega arith)
 got c t (x ∷ y ∷ zs) r (here {p} {t = w} {t' = w'} {e = d} {es = ds} m tick near) e =
@@ -100,26 +100,26 @@ ticks_near c l x some r =
     omega arith
 
 module _ (s : Settings) (c : ℕ) (passes : window s c ≡ true) where
-  plain : (xs : List NibblePulse) → All (Measures c) xs → readings c xs ≡ values xs
+  plain : (xs : List NibblePulse) → AllByRecursion (Measures c) xs → readings c xs ≡ values xs
   plain [] h = refl
   plain (x ∷ xs) h =
       let e : ticks c x.interval - 12 ≡ x.value = omega (arith, (as_read s c passes x h.0).is) in
       ap₂ (λ (i : ℕ) (j : List ℕ). i ∷ j) e (plain xs h.1)
 
-  all_brief : (xs : List NibblePulse) → All (Measures c) xs → All (Brief s) xs
+  all_brief : (xs : List NibblePulse) → AllByRecursion (Measures c) xs → AllByRecursion (Brief s) xs
   all_brief [] h = tt
   all_brief (x ∷ xs) h = (as_brief s c passes x h.0, all_brief xs h.1)
 
   rough_brief : (x : NibblePulse) (l : ℕ) → x.value < 16 → Rough c x l → Brief s (of_length x l)
   rough_brief x l h r = brief s c (of_length x l) passes h r.lo r.hi
 
-  shifted_brief : {xs ys : List NibblePulse} → Shifted c xs ys → All (Measures c) xs → All (Brief s) ys
+  shifted_brief : {xs ys : List NibblePulse} → Shifted c xs ys → AllByRecursion (Measures c) xs → AllByRecursion (Brief s) ys
   shifted_brief (between {x} {y} {zs} {a} {b} m tick near sum) h =
       (rough_brief x a h.0.small (rough c m a x tick h.0 near), (rough_brief y b h.1.0.small (rough c m b y tick h.1.0 (omega arith, omega arith)), all_brief zs h.1.1))
   shifted_brief (behind {x} i) h = (as_brief s c passes x h.0, shifted_brief i h.1)
 
   -- so two neighbours at most are read otherwise than sent, by one each
-  shifted_near : {xs ys : List NibblePulse} → Shifted c xs ys → All (Measures c) xs → MovedNeighbours (values xs) (readings c ys)
+  shifted_near : {xs ys : List NibblePulse} → Shifted c xs ys → AllByRecursion (Measures c) xs → MovedNeighbours (values xs) (readings c ys)
   shifted_near (between {x} {y} {zs} {a} {b} m tick near sum) h =
       let some : 0 < c = (window_range s c passes).0 in
       inr (
@@ -140,7 +140,7 @@ last_push : (u : ℕ) (xs : List NibblePulse) (y : NibblePulse) → last_place u
 last_push u [] y = refl
 last_push u (x ∷ xs) y = last_push x.place xs y
 
-small_values : (c : ℕ) (xs : List NibblePulse) → All (Measures c) xs → Nibbles (values xs)
+small_values : (c : ℕ) (xs : List NibblePulse) → AllByRecursion (Measures c) xs → Nibbles (values xs)
 small_values c [] a = tt
 small_values c (x ∷ xs) a = (a.0.small, small_values c xs a.1)
 
@@ -170,7 +170,7 @@ module _ (s : Settings) (f : Sent) (r : Clean s f) (u t : ℕ) (es : List Event)
   abbrev begun : PulseState
   begun = inside f.place t u f.calibration []
 
-  ys_brief : All (Brief s) ys
+  ys_brief : AllByRecursion (Brief s) ys
   ys_brief = shifted_brief s f.calibration r.passes came.shifted (measures r)
 
   ys_length : length ys ≡ s.nibbles + 2

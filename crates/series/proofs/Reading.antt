@@ -1,6 +1,6 @@
 -- Pulses that are read as they were sent: the run of a clean frame.
 use Rattle.std.proofs.Common.{◌≡◌, ℕ, zero, suc, ◌+◌, ◌-◌, ◌*◌, ◌<◌, ◌≤◌, true, false, eqb, List, [], ◌∷◌, ◌++◌, map, length, take, sym, refl, ap, ◌∙◌, subst, append_assoc, mul-le-mul_right, arith}
-use Rattle.std.specs.List.{AllByRecursion as All}
+use Rattle.std.specs.List.{AllByRecursion}
 use Rattle.std.proofs.lemmas.List.{append-nil, length-append, length-map}
 use Rattle.std.proofs.ByRecursion.{All-weaker}
 use Rattle.std.proofs.lemmas.Bool.{eq-eqb, cond-true}
@@ -64,11 +64,11 @@ module _ {s : Settings} {f : Sent} (r : Clean s f) where
         hi = below f.calibration x.interval r.e r.p r.q (12 + x.value) r.q_some r.tight w even.0 even.1 h.0 h.1;
       }
 
-  each : (xs : List NibblePulse) → All (λ x. Within (r.q * r.e) (r.q * x.interval) ((12 + x.value) * r.p)) xs → All (λ x. x.value < 16) xs → All (Measures f.calibration) xs
+  each : (xs : List NibblePulse) → AllByRecursion (λ x. Within (r.q * r.e) (r.q * x.interval) ((12 + x.value) * r.p)) xs → AllByRecursion (λ x. x.value < 16) xs → AllByRecursion (Measures f.calibration) xs
   each [] h g = tt
   each (x ∷ xs) h g = (one x h.0 g.0, each xs h.1 g.1)
 
-  pub measures : All (Measures f.calibration) (nibbles_of f)
+  pub measures : AllByRecursion (Measures f.calibration) (nibbles_of f)
   measures = each (nibbles_of f) r.nibbles_even r.nibbles_small
 
 abbrev pub last_place : ℕ → List NibblePulse → ℕ
@@ -80,7 +80,7 @@ quiets xs = map (λ _. Quiet) xs
 
 -- pulses that are read and kept, and then whatever the others give
 front : (s : Settings) (from c : ℕ) (xs ys : List NibblePulse) (u t : ℕ) (kept : List ℕ) {os : List Outcome} {x' : PulseState}
-    → All (Brief s) xs → All (Reads c) xs → length kept + length xs ≤ suc s.nibbles
+    → AllByRecursion (Brief s) xs → AllByRecursion (Reads c) xs → length kept + length xs ≤ suc s.nibbles
     → Gives s (inside (last_place u xs) (finish t xs) from c (kept ++ values xs)) (edges (finish t xs) ys) os x'
     → Gives s (inside u t from c kept) (edges t (xs ++ ys)) (quiets xs ++ os) x'
 front s from c [] ys u t kept {os} {x'} b r l g = subst (λ (vs : List ℕ). Gives s (inside u t from c vs) (edges t ys) os x') (append-nil kept) g
@@ -96,7 +96,7 @@ finish_push : (t : ℕ) (xs : List NibblePulse) (y : NibblePulse) → finish t (
 finish_push t [] y = refl
 finish_push t (x ∷ xs) y = finish_push (t + x.interval) xs y
 
-all_front : (P : NibblePulse → Type 0) (xs : List NibblePulse) (y : NibblePulse) → All P (xs ++ y ∷ []) → All P xs × P y
+all_front : (P : NibblePulse → Type 0) (xs : List NibblePulse) (y : NibblePulse) → AllByRecursion P (xs ++ y ∷ []) → AllByRecursion P xs × P y
 all_front P [] y h = (tt, h.0)
 all_front P (x ∷ xs) y h = let r = all_front P xs y h.1 in ((h.0, r.0), r.1)
 

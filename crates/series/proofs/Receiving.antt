@@ -1,6 +1,6 @@
 -- Clean series are received.
 use Rattle.std.proofs.Common.{◌≡◌, ℕ, zero, suc, ◌+◌, ◌<◌, ◌≤◌, List, [], ◌∷◌, ◌++◌, length, take, drop, sym, refl, ap, ◌∙◌, subst, ap₂, append_assoc, arith}
-use Rattle.std.specs.List.{AllByRecursion as All}
+use Rattle.std.specs.List.{AllByRecursion}
 use Rattle.model.specs.declared.settings.Settings.{Settings}
 use Rattle.model.specs.declared.event.Event.{Event}
 use Rattle.model.specs.declared.event.Event.TheVariants.{Edge}
@@ -71,7 +71,7 @@ module _ (s : Settings) (g : Sent) (gr : Clean s g) (m : ℕ) (few : m < s.nibbl
       }
 
   -- from a ready state on
-  pub ready_exactly : (fs : List Sent) → All (Clean s) fs → (u t : ℕ) {x : PulseState} → Ready u t x
+  pub ready_exactly : (fs : List Sent) → AllByRecursion (Clean s) fs → (u t : ℕ) {x : PulseState} → Ready u t x
       → Exactly u fs (outcomes s x (series t fs ++ take m (frame_edges (series_end t fs) g)))
   ready_exactly [] a u t {x} i = cut m few
     where
@@ -93,7 +93,7 @@ module _ (s : Settings) (g : Sent) (gr : Clean s g) (m : ℕ) (few : m < s.nibbl
       record { frames = ap frames_of run ∙ n.frames; no_fault = ap faults_of run ∙ n.no_fault }
 
   -- from any state after an edge on: the first calibration pulse may show that a frame was cut off
-  pub open_received : (fs : List Sent) → All (Clean s) fs → (u t : ℕ) {x : PulseState} → Open s u t x
+  pub open_received : (fs : List Sent) → AllByRecursion (Clean s) fs → (u t : ℕ) {x : PulseState} → Open s u t x
       → Received u fs (outcomes s x (series t fs ++ take m (frame_edges (series_end t fs) g)))
   open_received [] a u t {x} i = cut m few
     where

@@ -1,6 +1,6 @@
 -- What any brief pulses give inside a frame: nothing, one fault, or the frame that they are read as.
 use Rattle.std.proofs.Common.{◌≡◌, ℕ, zero, suc, ◌+◌, ◌-◌, ◌<◌, ◌≤◌, Bool, true, false, cond, eqb, ◌⊎◌, List, [], ◌∷◌, ◌++◌, map, length, get_or, drop, sym, refl, ap, ◌∙◌, subst, inl, inr, append_assoc, arith}
-use Rattle.std.specs.List.{AllByRecursion as All}
+use Rattle.std.specs.List.{AllByRecursion}
 use Rattle.std.proofs.lemmas.List.{append-nil, length-append}
 use Rattle.std.proofs.ByRecursion.{All-push}
 use Rattle.std.proofs.lemmas.Bool.{cases_lt, cases_Bool, eqb-true, cond-true, cond-false}
@@ -33,7 +33,7 @@ pub data Scan (s : Settings) (from u t : ℕ) (all : List ℕ) : List Outcome �
       → length all ≡ s.nibbles + 2 → Scan s from u t all (Framed (row from st (six ds)) ∷ []) x
 
 -- pulses that are passed over while hunting
-skips : (s : Settings) (ys : List NibblePulse) (u t : ℕ) → All (Brief s) ys
+skips : (s : Settings) (ys : List NibblePulse) (u t : ℕ) → AllByRecursion (Brief s) ys
     → (reports_of (outcomes s (hunting u t) (edges t ys)) ≡ []) × (after s (hunting u t) (edges t ys) ≡ hunting (last_place u ys) (finish t ys))
 skips s [] u t b = (refl, refl)
 skips s (y ∷ ys) u t b =
@@ -48,7 +48,7 @@ module _ (s : Settings) (from c : ℕ) where
   Result u t all es x = Scan s from u t all (reports_of (x.outcome ∷ outcomes s x.state es)) (after s x.state es)
 
   -- a fault, and the rest passed over
-  lost_frame : (k : FaultKind) (p u t : ℕ) (ys : List NibblePulse) (all : List ℕ) → All (Brief s) ys
+  lost_frame : (k : FaultKind) (p u t : ℕ) (ys : List NibblePulse) (all : List ℕ) → AllByRecursion (Brief s) ys
       → Result (last_place u ys) (finish t ys) all (edges t ys) (gives (fault k p) (hunting u t))
   unfolding Result
   lost_frame k p u t ys all b =
@@ -78,7 +78,7 @@ module _ (s : Settings) (from c : ℕ) where
   closing [] v u t kept l l' a = last_one v u t kept l a
   closing (y ∷ ys) v u t kept l l' a = absurd (omega arith)
 
-  pub scan : (ys : List NibblePulse) (u t : ℕ) (kept : List ℕ) → All (Brief s) ys → Nibbles kept → length kept ≤ suc s.nibbles → length kept + length ys ≤ s.nibbles + 2
+  pub scan : (ys : List NibblePulse) (u t : ℕ) (kept : List ℕ) → AllByRecursion (Brief s) ys → Nibbles kept → length kept ≤ suc s.nibbles → length kept + length ys ≤ s.nibbles + 2
       → Scan s from (last_place u ys) (finish t ys) (kept ++ readings c ys) (reports_of (outcomes s (inside u t from c kept) (edges t ys))) (after s (inside u t from c kept) (edges t ys))
   unfolding Result
   scan [] u t kept b a l l' = pending (rw append-nil l)

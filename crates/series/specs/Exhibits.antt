@@ -2,7 +2,7 @@
 -- moved frames of both kinds.
 use Rattle.std.specs.Prelude.{◌≡◌, ℕ, ◌+◌, ◌*◌, ◌<◌, ◌≤◌, true, List, [], ◌∷◌, ◌++◌, length, take}
 use Rattle.std.proofs.Common.{lit≤}
-use Rattle.std.specs.List.{AllByRecursion as All}
+use Rattle.std.specs.List.{AllByRecursion}
 use Rattle.model.specs.declared.settings.Settings.{Settings}
 use Rattle.model.specs.declared.event.Event.{Event}
 use Rattle.model.specs.declared.event.Event.TheVariants.{Edge}
@@ -33,7 +33,7 @@ pub record Content : Type 0 where
 -- nibbles, as many as the settings say
 pub record Sendable (s : Settings) (x : Content) : Type 0 where
   pub status_small : x.status < 16
-  pub nibbles_small : All (λ v. v < 16) x.nibbles
+  pub nibbles_small : AllByRecursion (λ v. v < 16) x.nibbles
   pub count : length x.nibbles ≡ s.nibbles
 
 -- the frame that carries it, its edges at the places from p on
@@ -55,7 +55,7 @@ exact_frames s tick p (x ∷ xs) = exact_frame s tick p x ∷ exact_frames s tic
 -- clean series, whose completed frames are these
 abbrev pub ExactSeriesClean : Settings → Type 0
 ExactSeriesClean s =
-    (tick p q t : ℕ) (xs : List Content) (y : Content) (some : ℕ) → window s (56 * tick) ≡ true → All (Sendable s) xs → Sendable s y → some < s.nibbles + 3
+    (tick p q t : ℕ) (xs : List Content) (y : Content) (some : ℕ) → window s (56 * tick) ≡ true → AllByRecursion (Sendable s) xs → Sendable s y → some < s.nibbles + 3
     → (z : CleanSeries s t (series t (exact_frames s tick p xs) ++ take some (frame_edges (series_end t (exact_frames s tick p xs)) (exact_frame s tick q y))))
     × (z.sent ≡ exact_frames s tick p xs)
 

@@ -1,6 +1,6 @@
 -- What a head sends: frames of pulses, when a frame is clean, and how an edge may be moved.
 use Rattle.std.specs.Prelude.{◌≡◌, ℕ, ◌+◌, ◌*◌, ◌<◌, ◌≤◌, true, List, [], ◌∷◌, ◌++◌, map, length}
-use Rattle.std.specs.List.{AllByRecursion as All}
+use Rattle.std.specs.List.{AllByRecursion}
 use Rattle.model.specs.declared.settings.Settings.{Settings}
 use Rattle.model.specs.declared.event.Event.{Event}
 use Rattle.model.specs.declared.event.Event.TheVariants.{Edge}
@@ -81,8 +81,8 @@ pub record Clean (s : Settings) (f : Sent) : Type 0 where
   pub passes : window s f.calibration ≡ true
   pub tight : 166 * e < f.calibration
   pub calibration_even : Within (q * e) (q * f.calibration) (56 * p)
-  pub nibbles_even : All (λ x. Within (q * e) (q * x.interval) ((12 + x.value) * p)) (nibbles_of f)
-  pub nibbles_small : All (λ x. x.value < 16) (nibbles_of f)
+  pub nibbles_even : AllByRecursion (λ x. Within (q * e) (q * x.interval) ((12 + x.value) * p)) (nibbles_of f)
+  pub nibbles_small : AllByRecursion (λ x. x.value < 16) (nibbles_of f)
   pub count : length f.body ≡ s.nibbles
   pub fits : f.check.value ≡ frame_check s (values f.body)
 

@@ -1,6 +1,6 @@
 -- The laws of a channel's pulses: what a clean series gives, and one in which edges were moved.
 use Rattle.std.specs.Prelude.{◌≡◌, ℕ, ◌+◌, ◌<◌, Bool, true, false, List, [], ◌∷◌, ◌++◌, length, take, drop}
-use Rattle.std.specs.List.{AllByRecursion as All}
+use Rattle.std.specs.List.{AllByRecursion}
 use Rattle.model.specs.declared.settings.Settings.{Settings}
 use Rattle.model.specs.declared.event.Event.{Event}
 use Rattle.model.specs.declared.event.Event.TheVariants.{Edge}
@@ -49,7 +49,7 @@ past c os = drop (length c.before + 1) os
 -- or more, of a clean frame that is cut short.
 pub record CleanSeries (s : Settings) (t : ℕ) (es : List Event) : Type 0 where
   pub sent : List Sent
-  pub clean : All (Clean s) sent
+  pub clean : AllByRecursion (Clean s) sent
   pub cut_short : Sent
   pub cut_clean : Clean s cut_short
   pub some : ℕ
