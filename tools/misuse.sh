@@ -1,23 +1,25 @@
 #!/bin/sh
 # Two misuses that the build refuses, each by the compiler's error for a use of a moved value: a source that was given to a
 # unit is read beside it, and a closed unit is stepped. An edit of tools/misuse is a file, a line and what stands in its place.
-# Each is made in a copy of the repository, which the build accepts before the edit. `rt mir` compiles the program, after the
-# libraries that it uses are proved, and does not prove it.
+# Each is made in a copy of the repository, which the build accepts before the edit. `rt try` compiles and runs the program
+# with the libraries that it uses, and does not prove it.
 set -eu
 top=$(cd "$(dirname "$0")/.." && pwd)
 copy=$(mktemp -d)
 trap 'rm -rf "$copy"' EXIT
-cp -r "$top/crates" "$top/crates.txt" "$copy"/
-# what was proved of the libraries already need not be proved again for this
-if [ -d "$top/target" ]; then cp -r "$top/target" "$copy"/; fi
-cd "$copy"
+mkdir "$copy/crates"
+cp "$top/crates.txt" "$copy"/
+# the sources alone: what was proved of them plays no part here
+(cd "$top/crates" && find . -name out -prune -o -type f -print | tar cf - -T -) | (cd "$copy/crates" && tar xf -)
+cd "$copy/crates/tally"
 
-if ! rt mir tally >log 2>&1; then
-    cat log
+if ! rt try <stdin >../../log 2>&1; then
+    cat ../../log
     echo "misuse: the unedited copy is not accepted"
     exit 1
 fi
 echo "misuse: the unedited copy is accepted"
+cd "$copy"
 
 field() { sed -n "s/^$1: //p" "$2"; }
 
@@ -33,7 +35,7 @@ for edit in "$top"/tools/misuse/*.edit; do
     cp "$file" kept
     line=$(grep -nxF -f old "$file" | cut -d: -f1)
     { head -n $((line - 1)) kept; cat new; tail -n +$((line + 1)) kept; } >"$file"
-    if rt mir tally >log 2>&1; then
+    if (cd crates/tally && rt try <stdin >../../log 2>&1); then
         echo "misuse: $name: NOT refused"
         exit 1
     fi
