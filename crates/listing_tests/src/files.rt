@@ -21,7 +21,7 @@ fn want_of_room(rt: HostRuntime) -> Result<(), Fail> {
     few.push(7)?;
     let listed = list(b"", few);
     assert!(rt; listed.outcome.is_err());
-    assert!(rt; listed.bytes.as_slice() == [7]);
+    assert!(rt; listed.bytes.as_slice() == [7].as_slice());
     Ok(())
 }
 
