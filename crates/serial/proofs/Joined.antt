@@ -4,7 +4,7 @@ use native.Mathlib.Nat.{add-mod_left, zero-mod}
 use Rattle.std.proofs.lemmas.List.{drop-drop, drop_at}
 use Rattle.std.proofs.lemmas.Bool.{cases_lt}
 use Rattle.serial.specs.declared.pair.Pair.{Pair}
-use Rattle.serial.specs.Format.{Format, joined, AllLawful, Apart}
+use Rattle.serial.specs.Format.{Format, joined, Apart}
 
 -- whatever follows a lawful list, no stretch matches that begins in it past its first pair
 abbrev pub Inside : {M : Type 0} → Format M → Type 0

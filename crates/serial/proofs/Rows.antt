@@ -1,6 +1,6 @@
 -- The rows of a window: a piece of each, read as one list of pairs with their places.
-use Rattle.std.proofs.Common.{◌≡◌, ℕ, zero, suc, ◌+◌, ◌-◌, ◌<◌, ◌≤◌, true, false, List, [], ◌∷◌, ◌++◌, length, get_or, take, drop, set, Some, None, Option, sym, refl, ap, ◌∙◌, subst, ap₂, arith, length-append, length-drop, length-take}
-use Rattle.std.proofs.lemmas.List.{take_all, take_more_set, drop-drop, drop-append-le, drop-take, length-take-le, get_or-drop, get_or-take}
+use Rattle.std.proofs.Common.{◌≡◌, ℕ, zero, suc, ◌+◌, ◌-◌, ◌<◌, ◌≤◌, true, false, List, [], ◌∷◌, ◌++◌, length, get_or, take, drop, set, Some, None, sym, refl, ap, ◌∙◌, ap₂, arith, length-append, length-drop}
+use Rattle.std.proofs.lemmas.List.{take_more_set, drop-drop, drop-append-le, drop-take, length-take-le, get_or-drop, get_or-take}
 use Rattle.model.specs.declared.fault.Fault.{Fault}
 use Rattle.model.specs.declared.fault.FaultKind.TheVariants.{SerialCheck}
 use Rattle.serial.specs.declared.pair.Pair.{Pair}
@@ -52,11 +52,6 @@ piece start end xs = drop start (take end xs)
 
 length_piece : {X : Type 0} (start end : ℕ) (xs : List X) → end ≤ length xs → length (piece start end xs) ≡ end - start
 length_piece start end xs h = length-drop start (take end xs) ∙ ap (λ (k : ℕ). k - start) (length-take-le end xs h)
-
--- a piece of a row, moved to the front of the row
-pub piece_moved : {X : Type 0} (start n : ℕ) (xs ys : List X) → length xs ≡ n → take (length xs - start) ys ≡ drop start xs → piece 0 (n - start) ys ≡ piece start n xs
-piece_moved start n xs ys len e =
-    ap (λ (k : ℕ). take (k - start) ys) (sym len) ∙ e ∙ ap (drop start) (sym (take_all n xs (omega arith)))
 
 -- one more behind a piece, of which the last are kept
 piece_more : {X : Type 0} (start end next size : ℕ) (xs : List X) (x : X) → start ≤ end → end < length xs → next ≡ start + (end + 1 - start - size)

@@ -1,7 +1,6 @@
 -- The law of a window over runs of frames: lawful lists joined are told whole, and nothing else is said.
-use Rattle.std.proofs.Common.{◌≡◌, ℕ, zero, suc, ◌+◌, ◌-◌, ◌%◌, ◌<◌, ◌≤◌, Bool, true, false, cond, T, List, [], ◌∷◌, ◌++◌, map, length, take, drop, replicate, is_some, Some, None, Option, sym, refl, ap, ◌∙◌, subst, ap₂, append_assoc, append-nil, mod-eq_of_lt, zero-add, arith, length-append, length-drop}
+use Rattle.std.proofs.Common.{◌≡◌, ℕ, zero, suc, ◌+◌, ◌-◌, ◌%◌, ◌<◌, ◌≤◌, Bool, true, false, T, List, [], ◌∷◌, ◌++◌, map, length, take, drop, replicate, is_some, Some, None, Option, sym, refl, ap, ◌∙◌, subst, ap₂, append_assoc, append-nil, mod-eq_of_lt, zero-add, arith, length-append, length-drop}
 use native.Mathlib.Nat.{add-mod_left, add-mod_right, zero-mod, mod-add-mod}
-use Rattle.std.specs.List.{AllByRecursion}
 use Rattle.std.proofs.ByRecursion.{All-push}
 use Rattle.std.proofs.lemmas.List.{drop-drop, drop-append-le, drop_at, take_at, take-append-drop, take-map, drop-map, map-append, length-map}
 use Rattle.std.proofs.lemmas.Bool.{cond-false, cond-true, true≢false}
@@ -10,7 +9,7 @@ use Rattle.serial.specs.declared.report.SerialReport.{SerialReport}
 use Rattle.serial.specs.Format.{Format, LawfulFormat, joined, AllLawful}
 use Rattle.serial.specs.Windows.{Kept, last, pairs_of, first_place, judged, reported}
 use Rattle.serial.specs.Runs.{Came, kept_of, kept_after, answers, first_came, told_at, messages, JoinedListsToldWhole}
-use Rattle.serial.proofs.Truths.{so, is_so}
+use Rattle.serial.proofs.Truths.{is_so}
 
 so_false : (b : Bool) → (T b → ⊥) → b ≡ false
 so_false true t = absurd (t tt)

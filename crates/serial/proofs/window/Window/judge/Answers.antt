@@ -1,4 +1,4 @@
-use Rattle.std.proofs.Common.{◌≡◌, ◌-◌, length, get_or, take, drop, ◌∙◌, rules}
+use Rattle.std.proofs.Common.{◌≡◌, ◌-◌, get_or, take, drop, ◌∙◌, rules}
 use Rattle.serial.specs.Windows.{kept, pairs_of, first_place}
 use Rattle.serial.proofs.Rows.{slice_kept, first_kept, nothing_said, message_said, fault_said}
 use Rattle.serial.proofs.window.Window.judge.Goals as goal
