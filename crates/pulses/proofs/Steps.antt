@@ -1,15 +1,14 @@
 -- A step at an interval that is known.
-use Rattle.std.proofs.Common.{◌≡◌, ℕ, suc, ◌+◌, ◌-◌, ◌*◌, ◌<◌, ◌≤◌, Bool, true, false, cond, ◌||◌, eqb, ltb, leb, List, [], ◌∷◌, ◌++◌, length, get_or, drop, sym, refl, ap, ◌∙◌, subst, arith}
+use Rattle.std.proofs.Common.{◌≡◌, ℕ, ◌+◌, ◌-◌, ◌<◌, ◌≤◌, true, false, cond, eqb, ltb, leb, List, [], ◌∷◌, ◌++◌, length, get_or, drop, ap, ◌∙◌, arith}
 use native.Mathlib.Nat.{add-sub_cancel_left}
 use Rattle.std.proofs.lemmas.Bool.{lt-ltb, le-ltb, le-leb, lt-leb, or_from, cond-true, cond-false}
 use Rattle.model.specs.declared.settings.Settings.{Settings}
 use Rattle.model.specs.declared.event.Event.TheVariants.{Edge}
 use Rattle.model.specs.declared.fault.FaultKind.TheVariants.{Calibration, ShortNibble, LongNibble, FrameCheck}
-use Rattle.pulses.specs.declared.outcome.Outcome.{Outcome}
 use Rattle.pulses.specs.declared.outcome.Outcome.TheVariants.{Quiet, Skipped, Framed}
 use Rattle.pulses.specs.Intervals.{window, ticks, apart}
 use Rattle.pulses.specs.Frames.{row, six, frame_check}
-use Rattle.pulses.specs.Steps.{PulseState, hunting, expecting, inside, Stepped, gives, fault, after_frame, sought, nibble, measured, timed, step}
+use Rattle.pulses.specs.Steps.{hunting, expecting, inside, gives, fault, after_frame, sought, nibble, measured, step}
 
 -- the interval from the last edge, at the time w, to one at the time t can be taken, and is d
 pub record Spans (w t d : ℕ) : Type 0 where

@@ -1,5 +1,5 @@
 -- The steps at which nibbles are stored and a frame is completed, of the stored state.
-use Rattle.std.proofs.Common.{◌≡◌, ℕ, suc, ◌+◌, ◌-◌, ◌<◌, ◌≤◌, Bool, true, false, cond, eqb, List, [], ◌∷◌, ◌++◌, length, get_or, take, drop, set, sym, refl, ap, ◌∙◌, subst, ap₂, arith}
+use Rattle.std.proofs.Common.{◌≡◌, ℕ, ◌+◌, ◌-◌, ◌<◌, ◌≤◌, true, false, cond, eqb, List, length, get_or, take, drop, set, sym, refl, ap, ◌∙◌, subst, ap₂, arith}
 use Rattle.std.proofs.lemmas.Bool.{cond-true, cond-false}
 use Rattle.model.specs.declared.settings.Settings.{Settings}
 use Rattle.model.specs.declared.event.Event.{Event}
@@ -13,7 +13,7 @@ use Rattle.pulses.specs.declared.outcome.Outcome.TheVariants.{Quiet, Framed}
 use Rattle.pulses.specs.Intervals.{ticks, apart}
 use Rattle.pulses.specs.Frames.{row, six, frame_check}
 use Rattle.pulses.specs.States.{meaning}
-use Rattle.pulses.specs.Steps.{PulseState, inside, expecting, Stepped, gives, fault, after_frame, step}
+use Rattle.pulses.specs.Steps.{inside, expecting, gives, fault, after_frame, step}
 use Rattle.pulses.proofs.Kept.{Unused, more_kept, kept_length, six_kept, status_kept, data_kept}
 use Rattle.pulses.proofs.Steps.{Spans, keeps, closes}
 

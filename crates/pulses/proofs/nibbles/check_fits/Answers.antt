@@ -1,4 +1,4 @@
-use Rattle.std.proofs.Common.{◌≡◌, ℕ, eqb, List, take, drop, ap, ◌∙◌, arith, rules}
+use Rattle.std.proofs.Common.{ℕ, eqb, List, take, drop, ap, ◌∙◌, rules}
 use Rattle.checks.specs.Checks.{check4}
 use Rattle.pulses.specs.Frames.{frame_check}
 use Rattle.pulses.proofs.Packed.{low_bits, drop_small, take_small}

@@ -1,4 +1,4 @@
-use Rattle.std.proofs.Common.{◌≡◌, ℕ, ◌-◌, ◌<◌, ◌≤◌, true, false, set, sym, refl, ap, ◌∙◌, subst, arith, rules}
+use Rattle.std.proofs.Common.{◌≡◌, ℕ, ◌-◌, ◌<◌, ◌≤◌, true, false, set, sym, refl, ap, ◌∙◌, subst, rules}
 use Rattle.pulses.specs.declared.state.Partial.{Partial}
 use Rattle.pulses.specs.Intervals.{window, apart, ticks}
 use Rattle.pulses.specs.States.{meaning}
@@ -10,34 +10,31 @@ use Rattle.pulses.proofs.decoder.Decoder.follow.Goals as goal
 pub ticks-requires : goal.ticks-requires
 ticks-requires c = inside_some c.args.self.now.settings c.in-Inside-Edge.is-0 c.args.self.now.in_window
 
-pub ticks-requires-in-Inside· : goal.ticks-requires-in-Inside·
-ticks-requires-in-Inside· c = inside_some c.args.self.now.settings c.in-Inside-Edge.is-0 c.args.self.now.in_window
+pub ticks-requires-in-Inside-1 : goal.ticks-requires-in-Inside-1
+ticks-requires-in-Inside-1 c = inside_some c.args.self.now.settings c.in-Inside-Edge.is-0 c.args.self.now.in_window
 
 pub ticks-requires-in-Inside-Edge-4 : goal.ticks-requires-in-Inside-Edge-4
 ticks-requires-in-Inside-Edge-4 c = inside_some c.args.self.now.settings c.in-Inside-Edge.is-0 c.args.self.now.in_window
 
-pub ticks-requires-in-Inside·-2 : goal.ticks-requires-in-Inside·-2
-ticks-requires-in-Inside·-2 c = inside_some c.args.self.now.settings c.in-Inside-Edge.is-0 c.args.self.now.in_window
+pub ticks-requires-in-Inside-2 : goal.ticks-requires-in-Inside-2
+ticks-requires-in-Inside-2 c = inside_some c.args.self.now.settings c.in-Inside-Edge.is-0 c.args.self.now.in_window
 
-pub invariant-of-self-in-Inside-Edge-4 : goal.invariant-of-self-in-Inside-Edge-4
-invariant-of-self-in-Inside-Edge-4 c =
+pub invariant_of-self-in-Inside-Edge-4 : goal.invariant_of-self-in-Inside-Edge-4
+invariant_of-self-in-Inside-Edge-4 c =
     let i = c.in-Inside-Edge.is-0 in
     let f : Partial = c.in-Inside-Edge.field-1-0 in
     let d = c.args.self.now in
     let w = c.with_nibble.ensures in
-    let v : c.ticks-in-Inside-Edge-4.result - 12 < 16 = search rules in (
-      subst (λ (x : ℕ). window d.settings x ≡ true) (sym w.calibration_stays) (inside_window d.settings i d.in_window),
-      (
-        search rules,
-        (
-          more_small f.kept f.count _ w.stored v (inside_small d.settings i d.nibbles),
-          (subst (λ (x : ℕ). Unused x c.with_nibble.result.kept) (sym w.counted) (more_unused f.kept f.count _ w.stored (inside_unused d.settings i d.unused)), tt),
-        ),
-      ),
-    )
+    let v : c.ticks-in-Inside-Edge-4.result - 12 < 16 = search rules in
+    record {
+      in_window = subst (λ (x : ℕ). window d.settings x ≡ true) (sym w.calibration_stays) (inside_window d.settings i d.in_window);
+      few = search rules;
+      nibbles = more_small f.kept f.count _ w.stored v (inside_small d.settings i d.nibbles);
+      unused = subst (λ (x : ℕ). Unused x c.with_nibble.result.kept) (sym w.counted) (more_unused f.kept f.count _ w.stored (inside_unused d.settings i d.unused));
+    }
 
-pub check-fits-requires : goal.check-fits-requires
-check-fits-requires c = inside_small c.args.self.now.settings c.in-Inside-Edge.is-0 c.args.self.now.nibbles
+pub check_fits-requires : goal.check_fits-requires
+check_fits-requires c = inside_small c.args.self.now.settings c.in-Inside-Edge.is-0 c.args.self.now.nibbles
 
 pub received-requires : goal.received-requires
 received-requires c = inside_small c.args.self.now.settings c.in-Inside-Edge.is-0 c.args.self.now.nibbles
@@ -67,7 +64,7 @@ returns-in-Inside-Edge-5 c =
     let lo : 12 ≤ ticks f.calibration (a.time - a.last.time) = search rules in
     let hi : ticks f.calibration (a.time - a.last.time) ≤ 27 = search rules in
     let e = refuses d.settings a.is-0 a.is-1 near lo hi c.check_fits.ensures.seven_places (search rules) (inside_few d.settings a.is-0 d.few) (search rules) in
-    record { outcome = c.failed-in-Inside-Edge-5.ensures ∙ sym (ap (λ (x : Stepped). x.outcome) e); state = ap meaning c.after-frame-self.ensures ∙ sym (ap (λ (x : Stepped). x.state) e); nibbles_below_sixteen = search rules; settings_stay = refl }
+    record { outcome = c.failed-in-Inside-Edge-5.ensures ∙ sym (ap (λ (x : Stepped). x.outcome) e); state = ap meaning c.after_frame-self.ensures ∙ sym (ap (λ (x : Stepped). x.state) e); nibbles_below_sixteen = search rules; settings_stay = refl }
 
 pub returns-in-Inside-Edge-6 : goal.returns-in-Inside-Edge-6
 unfolding step
@@ -79,4 +76,4 @@ returns-in-Inside-Edge-6 c =
     let lo : 12 ≤ ticks f.calibration (a.time - a.last.time) = search rules in
     let hi : ticks f.calibration (a.time - a.last.time) ≤ 27 = search rules in
     let e = completes d.settings a.is-0 a.is-1 near lo hi c.check_fits.ensures.seven_places (search rules) (inside_few d.settings a.is-0 d.few) (inside_unused d.settings a.is-0 d.unused) (search rules) in
-    record { outcome = c.received.ensures.framed ∙ sym (ap (λ (x : Stepped). x.outcome) e); state = ap meaning c.after-frame-self-in-Inside-Edge-6.ensures ∙ sym (ap (λ (x : Stepped). x.state) e); nibbles_below_sixteen = search rules; settings_stay = refl }
+    record { outcome = c.received.ensures.framed ∙ sym (ap (λ (x : Stepped). x.outcome) e); state = ap meaning c.after_frame-self-in-Inside-Edge-6.ensures ∙ sym (ap (λ (x : Stepped). x.state) e); nibbles_below_sixteen = search rules; settings_stay = refl }

@@ -2,10 +2,10 @@ use Rattle.std.proofs.Common.{◌≡◌, length, sym, refl, subst, arith}
 use Rattle.pulses.proofs.Packed.{Small, six_behind, drop_small}
 use Rattle.pulses.proofs.frame.Frame.of.Goals as goal
 
-pub invariant-of-result : goal.invariant-of-result
-invariant-of-result c =
+pub invariant_of-result : goal.invariant_of-result
+invariant_of-result c =
     let seven : length c.args.kept ≡ 7 = omega arith in
-    (c.requires 0, (subst Small (sym (six_behind c.args.kept seven)) (drop_small 1 c.args.kept c.requires), tt))
+    record { small_status = c.requires 0; small_nibbles = subst Small (sym (six_behind c.args.kept seven)) (drop_small 1 c.args.kept c.requires) }
 
 pub returns : goal.returns
 returns c =
