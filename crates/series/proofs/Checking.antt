@@ -1,5 +1,5 @@
 -- What the check of a frame finds: nothing else opens it.
-use Rattle.std.proofs.Common.{◌≡◌, ℕ, ◌<◌, ◌⊎◌, List, [], ◌∷◌, ◌++◌, length, inl, inr}
+use Rattle.std.proofs.Common.{◌≡◌, ℕ, ◌<◌, List, [], ◌∷◌, ◌++◌, length, inl, inr}
 use Rattle.model.specs.declared.settings.Settings.{Settings}
 use Rattle.checks.specs.Found.{Nibbles, OneChanged, MovedFirst, MovedNeighbours}
 use Rattle.checks.proofs.Found as found

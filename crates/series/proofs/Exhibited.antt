@@ -1,16 +1,14 @@
 -- The laws speak of something.
-use Rattle.std.proofs.Common.{◌≡◌, ℕ, ◌+◌, ◌*◌, ◌<◌, ◌≤◌, true, List, [], ◌∷◌, ◌++◌, length, sym, refl, ap, ◌∙◌, arith, lit<, lit≤}
+use Rattle.std.proofs.Common.{◌≡◌, ℕ, ◌+◌, ◌*◌, ◌<◌, true, List, [], ◌∷◌, length, sym, refl, ap, ◌∙◌, arith, lit<, lit≤}
 use Rattle.std.specs.List.{AllByRecursion}
 use Rattle.std.proofs.ByRecursion.{All-push}
 use Rattle.model.specs.declared.settings.Settings.{Settings}
 use Rattle.checks.specs.Checks.{entry, check4}
-use Rattle.checks.specs.Found.{Nibbles}
 use Rattle.pulses.specs.Intervals.{window, ticks}
 use Rattle.pulses.specs.Frames.{frame_check}
 use Rattle.pulses.specs.Steps.{step, after_frame}
-use Rattle.series.specs.Sent.{NibblePulse, Sent, values, nibbles_of, Within, Clean, here}
-use Rattle.series.specs.Series.{CleanSeries}
-use Rattle.series.specs.Exhibits.{exact_pulse, exact_pulses, Content, Sendable, exact_frame, exact_frames, ExactSeriesClean, longest_pulse, shortest_pulse, slow_frame, fast_frame, uneven_frame, moved_a_little, moved_a_tick, LawsHaveInstances}
+use Rattle.series.specs.Sent.{NibblePulse, values, Within, Clean, here}
+use Rattle.series.specs.Exhibits.{exact_pulse, exact_pulses, Content, Sendable, exact_frame, exact_frames, ExactSeriesClean, longest_pulse, shortest_pulse, slow_frame, uneven_frame, LawsHaveInstances}
 use Rattle.pulses.proofs.Windows.{window_range}
 use Rattle.series.proofs.Checking.{check_is_a_nibble}
 
@@ -127,7 +125,7 @@ laws_have_instances =
       fast_at_the_end = refl;
       fast_received = refl;
       little_tolerable = (uneven_is_clean, here 3 (lit≤ tt) (lit≤ tt, lit≤ tt));
-      little-gives-a-frame = refl;
+      little_gives_a_frame = refl;
       tick_tolerable = (uneven_is_clean, here 10 (lit≤ tt) (lit≤ tt, lit≤ tt));
       tick_gives_a_fault = refl;
     }

@@ -15,7 +15,7 @@ ticks_are c d w h lo hi =
 -- An interval d of w ticks beside a calibration interval c, each within e counts of what was sent with a tick of p / q counts: d is
 -- within half a tick of w ticks under c. The tolerance is just small enough for as many ticks as a nibble may have.
 module _ (c d e p q w : ℕ) (q_some : 1 ≤ q) (tight : 166 * e < c) (most : w ≤ 27)
-    (c-up : q * c ≤ 56 * p + q * e) (c-low : 56 * p ≤ q * c + q * e) (d-up : q * d ≤ w * p + q * e) (d-low : w * p ≤ q * d + q * e) where
+    (c_up : q * c ≤ 56 * p + q * e) (c_low : 56 * p ≤ q * c + q * e) (d_up : q * d ≤ w * p + q * e) (d_low : w * p ≤ q * d + q * e) where
   scaled_tight : 166 * (q * e) < q * c
   scaled_tight = omega (arith, mul_left_comm q 166 e, mul-lt-mul_of_pos_left {k = q} tight q_some)
 
@@ -28,9 +28,9 @@ module _ (c d e p q w : ℕ) (q_some : 1 ≤ q) (tight : 166 * e < c) (most : w 
   pub above : w * (2 * c) < 112 * d + c
   above =
       lt_of_mul-lt-mul_left q
-      (omega (arith, scaled_tight, few, twice, mul-add q (112 * d) c, mul_left_comm q 112 d, mul-le-mul_left w c-up, mul-add w (56 * p) (q * e), mul_left_comm w 56 p))
+      (omega (arith, scaled_tight, few, twice, mul-add q (112 * d) c, mul_left_comm q 112 d, mul-le-mul_left w c_up, mul-add w (56 * p) (q * e), mul_left_comm w 56 p))
 
   pub below : 112 * d < w * (2 * c) + c
   below =
       lt_of_mul-lt-mul_left q
-      (omega (arith, scaled_tight, few, twice, mul-add q (w * (2 * c)) c, mul_left_comm q 112 d, mul-le-mul_left w c-low, mul-add w (q * c) (q * e), mul_left_comm w 56 p))
+      (omega (arith, scaled_tight, few, twice, mul-add q (w * (2 * c)) c, mul_left_comm q 112 d, mul-le-mul_left w c_low, mul-add w (q * c) (q * e), mul_left_comm w 56 p))

@@ -1,5 +1,5 @@
 -- A frame with one edge moved: its pulses as they came, and what they give.
-use Rattle.std.proofs.Common.{◌≡◌, ℕ, zero, suc, ◌+◌, ◌-◌, ◌*◌, ◌/◌, ◌<◌, ◌≤◌, Bool, true, false, ◌⊎◌, List, [], ◌∷◌, ◌++◌, map, length, take, sym, refl, ap, ◌∙◌, subst, ap₂, inl, inr, mul-le-mul_right, add-mul, arith, length-take}
+use Rattle.std.proofs.Common.{◌≡◌, ℕ, zero, suc, ◌+◌, ◌-◌, ◌*◌, ◌/◌, ◌<◌, ◌≤◌, true, List, [], ◌∷◌, ◌++◌, length, take, sym, refl, ap, ◌∙◌, subst, ap₂, inl, inr, mul-le-mul_right, add-mul, arith, length-take}
 use Rattle.std.specs.List.{AllByRecursion}
 use Rattle.std.proofs.lemmas.List.{length-append, length-map}
 use Rattle.std.proofs.ByRecursion.{All-take}
@@ -7,7 +7,6 @@ use Rattle.std.proofs.lemmas.Nat.{div_below, le-div}
 use Rattle.model.specs.declared.settings.Settings.{Settings}
 use Rattle.model.specs.declared.event.Event.{Event}
 use Rattle.model.specs.declared.event.Event.TheVariants.{Edge}
-use Rattle.model.specs.declared.fault.Fault.{Fault}
 use Rattle.checks.specs.Found.{Nibbles, Near, MovedNeighbours}
 use Rattle.pulses.specs.declared.outcome.Outcome.{Outcome}
 use Rattle.pulses.specs.declared.outcome.Outcome.TheVariants.{Framed, Failed}
@@ -19,7 +18,7 @@ use Rattle.series.specs.Series.{reports_of, Fair, AtMostAFault}
 use Rattle.pulses.proofs.Windows.{window_range}
 use Rattle.series.proofs.Checking.{checked, moved_data_found}
 use Rattle.series.proofs.Opening.{Ready}
-use Rattle.series.proofs.Reading.{Brief, Reads, Measures, brief, as_brief, as_read, measures, last_place}
+use Rattle.series.proofs.Reading.{Brief, Measures, brief, as_brief, as_read, measures, last_place}
 use Rattle.series.proofs.Scanning.{readings, Scan, pending, refused, framed, scan}
 
 -- the pulse x with another interval
@@ -184,9 +183,9 @@ module _ (s : Settings) (f : Sent) (r : Clean s f) (u t : ℕ) (es : List Event)
       let ws : List ℕ = values f.body in
       let sent_is : values (nibbles_of f) ≡ f.status.value ∷ checked s ws =
       ap (λ (i : List ℕ). f.status.value ∷ i) (values_push f.body f.check ∙ ap (λ (i : ℕ). ws ++ i ∷ []) r.fits) in
-      let got-is : readings f.calibration ys ≡ st ∷ checked s ds = e ∙ ap (λ (i : ℕ). st ∷ (ds ++ i ∷ [])) q in
+      let got_is : readings f.calibration ys ≡ st ∷ checked s ds = e ∙ ap (λ (i : ℕ). st ∷ (ds ++ i ∷ [])) q in
       let near = subst (λ (i : List ℕ). MovedNeighbours i (st ∷ checked s ds)) sent_is
-      (subst (λ (i : List ℕ). MovedNeighbours (values (nibbles_of f)) i) got-is (shifted_near s f.calibration r.passes came.shifted (measures r))) in
+      (subst (λ (i : List ℕ). MovedNeighbours (values (nibbles_of f)) i) got_is (shifted_near s f.calibration r.passes came.shifted (measures r))) in
       let sv : Nibbles (f.status.value ∷ checked s ws) = subst Nibbles sent_is (small_values f.calibration (nibbles_of f) (measures r)) in
       let l2 : length (readings f.calibration ys) ≡ suc (length ds + 1) = ap length e ∙ ap suc (length-append ds (v ∷ [])) in
       let l3 : length ws ≡ s.nibbles = length-map f.body (λ y. y.value) ∙ r.count in
@@ -218,10 +217,10 @@ module _ (s : Settings) (f : Sent) (r : Clean s f) (u t : ℕ) (es : List Event)
   few l (refused y) = refl
   few l (framed st v ds y e q a h) = absurd (omega arith)
 
-  edges_take : (m t : ℕ) (ys : List NibblePulse) → take m (edges t ys) ≡ edges t (take m ys)
-  edges_take zero t ys = refl
+  edges_take : (m t : ℕ) (xs : List NibblePulse) → take m (edges t xs) ≡ edges t (take m xs)
+  edges_take zero t xs = refl
   edges_take (suc m) t [] = refl
-  edges_take (suc m) t (y ∷ ys) = ap (λ (x : List Event). Edge y.place (t + y.interval) ∷ x) (edges_take m (t + y.interval) ys)
+  edges_take (suc m) t (x ∷ xs) = ap (λ (zs : List Event). Edge x.place (t + x.interval) ∷ zs) (edges_take m (t + x.interval) xs)
 
   -- some edges of its nibbles, not all
   pub moved_part : (m : ℕ) → m < s.nibbles + 2 → AtMostAFault (reports_of (outcomes s begun (take m es)))

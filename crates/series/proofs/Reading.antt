@@ -1,5 +1,5 @@
 -- Pulses that are read as they were sent: the run of a clean frame.
-use Rattle.std.proofs.Common.{◌≡◌, ℕ, zero, suc, ◌+◌, ◌-◌, ◌*◌, ◌<◌, ◌≤◌, true, false, eqb, List, [], ◌∷◌, ◌++◌, map, length, take, sym, refl, ap, ◌∙◌, subst, append_assoc, mul-le-mul_right, arith}
+use Rattle.std.proofs.Common.{◌≡◌, ℕ, suc, ◌+◌, ◌*◌, ◌<◌, ◌≤◌, true, false, eqb, List, [], ◌∷◌, ◌++◌, map, length, sym, refl, ap, ◌∙◌, subst, append_assoc, mul-le-mul_right, arith}
 use Rattle.std.specs.List.{AllByRecursion}
 use Rattle.std.proofs.lemmas.List.{append-nil, length-append, length-map}
 use Rattle.std.proofs.ByRecursion.{All-weaker}
@@ -14,7 +14,7 @@ use Rattle.pulses.specs.Steps.{PulseState, inside, after_frame}
 use Rattle.series.specs.Sent.{NibblePulse, Sent, nibbles_of, values, frame_sent, edges, finish, Within, Clean}
 use Rattle.series.proofs.Measure.{ticks_are, above, below}
 use Rattle.pulses.proofs.Windows.{window_range, nibble_is_short}
-use Rattle.pulses.proofs.Steps.{Spans, spans, keeps, closes}
+use Rattle.pulses.proofs.Steps.{spans, keeps, closes}
 use Rattle.series.proofs.Runs.{Gives, gives_more}
 
 -- a pulse that can be taken, and never passes for a calibration pulse

@@ -8,11 +8,11 @@ use Rattle.model.specs.declared.fault.Fault.{Fault}
 use Rattle.pulses.specs.declared.frame.FrameRow.{FrameRow}
 use Rattle.pulses.specs.declared.outcome.Outcome.{Outcome}
 use Rattle.pulses.specs.declared.outcome.Outcome.TheVariants.{Quiet, Framed}
-use Rattle.pulses.specs.Steps.{PulseState, lost, inside, Stepped, gives, after_frame, step, outcomes, after}
+use Rattle.pulses.specs.Steps.{PulseState, lost, inside, Stepped, after_frame, step, outcomes, after}
 use Rattle.series.specs.Sent.{NibblePulse, Sent, nibbles_of, frame_sent, edges, frame_edges, next_place, next_time, series, series_end, Clean}
-use Rattle.series.specs.Series.{frames_of, faults_of, Cut, past, CleanSeries, frames_sent, Received, CleanSeriesReceived}
-use Rattle.series.proofs.Opening.{Ready, after_frame_ready, Open, open_after, Mild, calm, cut_off, Begun, calibrates, begins}
-use Rattle.series.proofs.Runs.{Gives, gives_more, outcomes_append, outcomes_take, outcomes_past, frames_append, faults_append}
+use Rattle.series.specs.Series.{frames_of, faults_of, Cut, past, frames_sent, Received, CleanSeriesReceived}
+use Rattle.series.proofs.Opening.{Ready, after_frame_ready, Open, open_after, Mild, calm, cut_off, calibrates, begins}
+use Rattle.series.proofs.Runs.{outcomes_append, outcomes_take, outcomes_past, frames_append, faults_append}
 use Rattle.series.proofs.Reading.{quiets, given, reads}
 
 -- outcomes that give exactly the frames sent

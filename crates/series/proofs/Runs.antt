@@ -1,5 +1,5 @@
 -- Runs: the outcomes of events one after the other.
-use Rattle.std.proofs.Common.{◌≡◌, ℕ, zero, suc, ◌+◌, List, [], ◌∷◌, ◌++◌, length, take, drop, sym, refl, ap, ◌∙◌, add-one, arith}
+use Rattle.std.proofs.Common.{◌≡◌, ℕ, zero, suc, ◌+◌, List, [], ◌∷◌, ◌++◌, length, take, drop, refl, ap, ◌∙◌, arith}
 use Rattle.model.specs.declared.settings.Settings.{Settings}
 use Rattle.model.specs.declared.event.Event.{Event}
 use Rattle.model.specs.declared.fault.Fault.{Fault}
@@ -7,7 +7,7 @@ use Rattle.pulses.specs.declared.frame.FrameRow.{FrameRow}
 use Rattle.pulses.specs.declared.outcome.Outcome.{Outcome}
 use Rattle.pulses.specs.declared.outcome.Outcome.TheVariants.{Quiet, Skipped, Framed, Failed}
 use Rattle.pulses.specs.Steps.{PulseState, Stepped, gives, step, outcomes, after}
-use Rattle.series.specs.Series.{frames_of, faults_of, reports_of}
+use Rattle.series.specs.Series.{frames_of, faults_of}
 
 -- a run, by its outcomes and its end
 pub record Gives (s : Settings) (x : PulseState) (es : List Event) (os : List Outcome) (x' : PulseState) : Type 0 where

@@ -1,5 +1,5 @@
 -- Moved edges are tolerated.
-use Rattle.std.proofs.Common.{◌≡◌, ℕ, zero, suc, ◌+◌, ◌<◌, ◌≤◌, Bool, true, false, List, [], ◌∷◌, ◌++◌, length, take, drop, sym, refl, ap, ◌∙◌, subst, ap₂, append_assoc, arith}
+use Rattle.std.proofs.Common.{◌≡◌, ℕ, zero, suc, ◌+◌, ◌<◌, ◌≤◌, Bool, true, false, List, [], ◌∷◌, ◌++◌, length, take, sym, refl, ap, ◌∙◌, subst, append_assoc, arith}
 use Rattle.model.specs.declared.settings.Settings.{Settings}
 use Rattle.model.specs.declared.event.Event.{Event}
 use Rattle.model.specs.declared.event.Event.TheVariants.{Edge}
@@ -7,11 +7,11 @@ use Rattle.pulses.specs.declared.outcome.Outcome.{Outcome}
 use Rattle.pulses.specs.declared.outcome.Outcome.TheVariants.{Quiet, Skipped, Framed, Failed}
 use Rattle.pulses.specs.declared.frame.FrameRow.{FrameRow}
 use Rattle.pulses.specs.Steps.{PulseState, lost, inside, Stepped, gives, step, outcomes, after}
-use Rattle.series.specs.Sent.{NibblePulse, Sent, nibbles_of, frame_sent, edges, finish, next_place, next_time, Clean, Arrival, as_sent, moved, sent_of, nibble_edges, arrival_edges, arrivals, arrivals_end, Tolerable, AllTolerable}
-use Rattle.series.specs.Series.{frames_of, reports_of, Cut, past, MovedSeries, Fair, Calibrated, FrameTolerated, AtMostAFault, FairSoFar, Tolerated, unfinished, completed, MovedEdgesTolerated}
-use Rattle.series.proofs.Opening.{Ready, after_frame_ready, Open, open_after, Mild, calm, cut_off, Begun, calibrates, begins}
-use Rattle.series.proofs.Runs.{Gives, outcomes_append, outcomes_take, outcomes_length}
-use Rattle.series.proofs.Reading.{quiets, given, reads}
+use Rattle.series.specs.Sent.{NibblePulse, nibbles_of, frame_sent, edges, finish, next_place, next_time, Clean, Arrival, as_sent, moved, sent_of, nibble_edges, arrival_edges, arrivals, arrivals_end, Tolerable, AllTolerable}
+use Rattle.series.specs.Series.{frames_of, reports_of, Calibrated, AtMostAFault, FairSoFar, Tolerated, unfinished, completed, MovedEdgesTolerated}
+use Rattle.series.proofs.Opening.{Ready, after_frame_ready, Open, open_after, Mild, calm, cut_off, calibrates, begins}
+use Rattle.series.proofs.Runs.{outcomes_append, outcomes_take, outcomes_length}
+use Rattle.series.proofs.Reading.{quiets, reads}
 use Rattle.series.proofs.Receiving.{past_cut}
 use Rattle.series.proofs.Moving.{Turn, moved_turn, moved_part}
 

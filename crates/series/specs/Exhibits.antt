@@ -1,10 +1,9 @@
 -- The laws speak of something: frames of exact pulses are clean series, and there are series at both ends of the window and
 -- moved frames of both kinds.
-use Rattle.std.specs.Prelude.{◌≡◌, ℕ, ◌+◌, ◌*◌, ◌<◌, ◌≤◌, true, List, [], ◌∷◌, ◌++◌, length, take}
+use Rattle.std.specs.Prelude.{◌≡◌, ℕ, ◌+◌, ◌*◌, ◌<◌, true, List, [], ◌∷◌, ◌++◌, length, take}
 use Rattle.std.proofs.Common.{lit≤}
 use Rattle.std.specs.List.{AllByRecursion}
 use Rattle.model.specs.declared.settings.Settings.{Settings}
-use Rattle.model.specs.declared.event.Event.{Event}
 use Rattle.model.specs.declared.event.Event.TheVariants.{Edge}
 use Rattle.model.specs.declared.fault.FaultKind.TheVariants.{FrameCheck}
 use Rattle.pulses.specs.declared.outcome.Outcome.{Outcome}
@@ -115,7 +114,7 @@ pub record LawsHaveInstances : Type 0 where
   pub fast_at_the_end : 5 * fast_frame.calibration ≡ 4 * shortest_pulse.calibration
   pub fast_received : outcomes shortest_pulse lost (Edge 0 0 ∷ series 0 (fast_frame ∷ [])) ≡ one_frame
   pub little_tolerable : Tolerable shortest_pulse 0 moved_a_little
-  pub little-gives-a-frame :
+  pub little_gives_a_frame :
       outcomes shortest_pulse lost (Edge 0 0 ∷ arrival_edges 0 moved_a_little) ≡ Quiet ∷ Quiet ∷ Quiet ∷ Quiet ∷ Framed (row 0 1 (4 ∷ 0 ∷ 0 ∷ 0 ∷ 0 ∷ 0 ∷ [])) ∷ []
   pub tick_tolerable : Tolerable shortest_pulse 0 moved_a_tick
   pub tick_gives_a_fault : outcomes shortest_pulse lost (Edge 0 0 ∷ arrival_edges 0 moved_a_tick) ≡ Quiet ∷ Quiet ∷ Quiet ∷ Quiet ∷ fault FrameCheck 4 ∷ []

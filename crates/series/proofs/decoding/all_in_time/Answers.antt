@@ -1,4 +1,4 @@
-use Rattle.std.proofs.Common.{◌≡◌, ℕ, ◌+◌, ◌^◌, ◌<◌, ◌≤◌, Bool, true, false, ◌&&◌, ltb, List, [], ◌∷◌, length, get_or, drop, sym, refl, ap, ◌∙◌, arith}
+use Rattle.std.proofs.Common.{◌≡◌, ℕ, ◌+◌, ◌^◌, ◌<◌, ◌≤◌, Bool, false, ◌&&◌, List, length, get_or, drop, sym, ap, ◌∙◌, arith}
 use Rattle.std.proofs.lemmas.List.{at_drop_more, at_drop_all}
 use Rattle.std.proofs.lemmas.Bool.{lt-ltb, le-ltb}
 use Rattle.model.specs.declared.event.Event.{Event}
@@ -14,8 +14,8 @@ in_time_off : (es : List Event) (i : ℕ) (d : Event) {t : ℕ} → i < length e
 in_time_off es i d l e h =
     at_drop_more in_time es i d l ∙ ap (λ (b : Bool). b && in_time (drop (i + 1) es)) (le-ltb (time_of (get_or es i d)) (2 ^ 40) (omega arith))
 
-pub returns-then-time-ge-TIME-LIMIT : goal.returns-then-time-ge-TIME-LIMIT
-returns-then-time-ge-TIME-LIMIT c =
+pub returns-then-time-ge-TIME_LIMIT : goal.returns-then-time-ge-TIME_LIMIT
+returns-then-time-ge-TIME_LIMIT c =
     sym (sym c.loop-event.invariant ∙ in_time_off c.args.events.now c.loop-event.event-index _ (omega arith) c.time.ensures (omega arith))
 
 pub loop-event-preserved : goal.loop-event-preserved

@@ -1,15 +1,14 @@
-use Rattle.std.proofs.Common.{◌≡◌, ℕ, zero, suc, ◌+◌, ◌^◌, ◌<◌, ◌≤◌, Bool, true, false, cond, ltb, List, [], ◌∷◌, ◌++◌, length, get_or, drop, Some, None, vec_items, vec_capacity, Option, sym, refl, ap, ◌∙◌, subst, ap₂, append_assoc, append-nil, arith, rules}
+use Rattle.std.proofs.Common.{◌≡◌, ℕ, zero, suc, ◌+◌, ◌^◌, ◌<◌, ◌≤◌, true, ltb, List, [], ◌∷◌, ◌++◌, length, get_or, drop, None, vec_items, vec_capacity, sym, ap, ◌∙◌, subst, ap₂, append_assoc, append-nil, arith, rules}
 use Rattle.std.proofs.lemmas.List.{at_drop_more, at_drop_all}
 use Rattle.std.proofs.lemmas.Bool.{le-ltb, ltb-true, and_parts, cond-true, cond-false}
 use Rattle.model.specs.declared.settings.Settings.{Settings}
 use Rattle.model.specs.declared.event.Event.{Event}
 use Rattle.model.specs.Events.{time_of}
 use Rattle.pulses.specs.declared.outcome.Outcome.{Outcome}
-use Rattle.series.specs.declared.decoding.RunRefusal.{RunRefusal}
 use Rattle.pulses.specs.Decoding.{state_of}
 use Rattle.series.specs.Running.{in_time, run_refused}
 use Rattle.series.specs.Series.{CleanSeriesReceived, MovedEdgesTolerated}
-use Rattle.pulses.specs.Steps.{PulseState, lost, Stepped, step, outcomes, after}
+use Rattle.pulses.specs.Steps.{PulseState, lost, step, outcomes, after}
 use Rattle.series.proofs.Receiving.{clean_series_received}
 use Rattle.series.proofs.Tolerating.{moved_edges_tolerated}
 use Rattle.series.proofs.decoding.decode.Goals as goal
