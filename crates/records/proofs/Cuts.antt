@@ -1,6 +1,5 @@
 -- Bytes opened at their first record.
 use Rattle.std.proofs.Common.{◌≡◌, ℕ, ◌+◌, ◌-◌, ◌≤◌, List, [], ◌∷◌, length, get_or, take, drop, sym, ap, ◌∙◌, arith, length-drop, length-take, take_all}
-use Rattle.records.specs.declared.record.Record.{Record}
 use Rattle.records.specs.Records.{counter_value, log_value, fours, eights}
 
 -- what stands behind the first n, as the code has it
