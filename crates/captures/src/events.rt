@@ -1,7 +1,7 @@
 // From records to events: one text for both kinds of capture.
 ghost use Rattle.std.specs.Prelude.{◌≡◌, ◌+◌, ◌*◌, ◌^◌, ◌<◌, ◌≤◌, length, Some, None, MatchResult};
 ghost use Rattle.model.specs.Events.{Lawful};
-ghost use Rattle.captures.specs.Times.{stamp_of, is_later, lost_event, timed_event, last_time, last_after_time, stamps, all_stamps, ahead, pending, capture_events, in-order, event_at, record_count};
+ghost use Rattle.captures.specs.Times.{stamp_of, is_later, lost_event, timed_event, last_time, last_after_time, stamps, all_stamps, ahead, pending, capture_events, in_order, event_at, record_count};
 ghost use Rattle.captures.specs.Rules.{EventsByRule};
 ghost use Rattle.records.specs.Records.{records};
 ghost use Rattle.records.specs.Checked.{checked};
@@ -163,7 +163,7 @@ pub(crate) fn first_event<'a>(
     ensures all { pending result.event (ahead kind result.after) ≡ capture_events kind bytes.now }
     ensures small { result.after.place + length result.after.rest.now ≤ 24576 }
     ensures few { result.after.wraps ≤ result.after.place }
-    ensures in_order { pending result.event (ahead kind result.after) ≡ in-order (event_at kind bytes.now) (record_count kind bytes.now) }
+    ensures in_order { pending result.event (ahead kind result.after) ≡ in_order (event_at kind bytes.now) (record_count kind bytes.now) }
     ensures each_event_by_its_rule { EventsByRule kind bytes.now }
     ensures lawful { ∥ Lawful (pending result.event (ahead kind result.after)) ∥₁ }
 {

@@ -1,6 +1,6 @@
-use Rattle.std.proofs.Common.{◌≡◌, None, sym, ap, ◌∙◌, subst, arith}
+use Rattle.std.proofs.Common.{None, sym, ap, ◌∙◌, subst, arith}
 use Rattle.model.specs.Events.{Lawful}
-use Rattle.captures.specs.Times.{events_from, pending, ahead, capture_events}
+use Rattle.captures.specs.Times.{events_from}
 use Rattle.captures.proofs.Lawfuls.{capture_lawful, capture_in_order}
 use Rattle.captures.proofs.Ruled.{events_by_rule}
 use Rattle.captures.proofs.events.first_event.Goals as goal
@@ -16,5 +16,5 @@ returns c =
       few = found.few;
       in_order = all ∙ capture_in_order c.args.kind xs;
       each_event_by_its_rule = events_by_rule c.args.kind xs;
-      lawful = ∣ subst Lawful (sym all) (capture_lawful c.args.kind xs (λ i. omega (arith, c.type-inv.bytes i))) ∣₁;
+      lawful = ∣ subst Lawful (sym all) (capture_lawful c.args.kind xs (λ i. omega (arith, c.type_inv.bytes i))) ∣₁;
     }

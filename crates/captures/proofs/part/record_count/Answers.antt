@@ -1,4 +1,4 @@
-use Rattle.std.proofs.Common.{◌≡◌, ℕ, ◌/◌, ◌<◌, length, ap, ◌∙◌, arith}
+use Rattle.std.proofs.Common.{◌≡◌, ◌/◌, ◌<◌, length, ap, ◌∙◌, arith}
 use Rattle.captures.specs.Times.{record_count}
 use Rattle.captures.proofs.Counts.{counted, record_within}
 use Rattle.captures.proofs.part.record_count.Goals as goal
