@@ -1,5 +1,5 @@
 -- A channel: its rules, what it is between two events, and what one event gives.
-use Rattle.std.specs.Prelude.{ℕ, ◌+◌, min, cond, ltb, List, [], ◌∷◌, ◌++◌, take, Some, None, Option}
+use Rattle.std.specs.Prelude.{ℕ, ◌+◌, min, List, [], ◌∷◌, ◌++◌, take, Some, None, Option}
 use Rattle.model.specs.declared.settings.Settings.{Settings}
 use Rattle.model.specs.declared.event.Event.{Event}
 use Rattle.model.specs.Events.{place_of}

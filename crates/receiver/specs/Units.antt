@@ -5,11 +5,8 @@ use Rattle.model.specs.declared.side.Side.{Side}
 use Rattle.model.specs.declared.side.Side.TheVariants.{A as SideA, B as SideB}
 use Rattle.model.specs.Events.{time_of, rest}
 use Rattle.receiver.specs.declared.answer.Reports.{Reports}
-use Rattle.receiver.specs.declared.answer.Step.{Step}
 use Rattle.receiver.specs.declared.answer.Step.TheVariants.{A as StepA, B as StepB}
-use Rattle.receiver.specs.declared.answer.StepRefusal.{StepRefusal}
 use Rattle.receiver.specs.declared.answer.StepRefusal.TheVariants.{NoEvent}
-use Rattle.receiver.specs.declared.answer.Subject.{Subject}
 use Rattle.receiver.specs.declared.answer.Subject.TheVariants.{Reading as ReadingOf}
 use Rattle.receiver.specs.declared.answer.Call.{Call}
 use Rattle.receiver.specs.declared.answer.Call.TheVariants.{Step as StepCall, Look}
