@@ -1,5 +1,5 @@
 -- The enhanced format: 18 pairs.
-use Rattle.std.specs.Prelude.{◌≡◌, ℕ, suc, ◌<◌, Bool, true, false, cond, List, [], ◌∷◌, ◌++◌, map, Some}
+use Rattle.std.specs.Prelude.{◌≡◌, ℕ, suc, ◌<◌, Bool, true, false, List, [], ◌∷◌, ◌++◌, Some}
 use Rattle.checks.specs.Checks.{check6}
 use Rattle.serial.specs.declared.pair.Pair.{Pair}
 use Rattle.formats.specs.declared.enhanced.EnhancedMessage.{EnhancedMessage}
@@ -7,7 +7,7 @@ use Rattle.formats.specs.declared.enhanced.Configuration.{Configuration}
 use Rattle.formats.specs.declared.enhanced.Configuration.TheVariants.{Data12, Data16}
 use Rattle.serial.specs.Pairs.{Position, bit3, bit2, bits3, bits2, read, spelled}
 use Rattle.serial.specs.Format.{Format}
-use Rattle.formats.specs.Layout.{Layout, Field, format_by, written_by}
+use Rattle.formats.specs.Layout.{Layout, format_by, written_by}
 
 -- bit 2 and then bit 3 of three pairs, from the one with the number k on
 abbrev pub group : ℕ → List Position

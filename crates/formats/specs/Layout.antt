@@ -1,5 +1,5 @@
 -- A format by the positions of its bits.
-use Rattle.std.specs.Prelude.{◌≡◌, ℕ, zero, suc, ◌-◌, ◌/◌, ◌%◌, ◌^◌, Bool, true, false, cond, not, ◌&&◌, List, [], ◌∷◌, map, length, Some, None, Option, ◌==◌}
+use Rattle.std.specs.Prelude.{ℕ, ◌-◌, ◌/◌, ◌%◌, ◌^◌, Bool, true, false, cond, not, ◌&&◌, List, [], ◌∷◌, map, length, Some, None, ◌==◌}
 use Rattle.std.specs.List.{range_with_len}
 use Rattle.serial.specs.declared.pair.Pair.{Pair}
 use Rattle.serial.specs.Pairs.{Position, bit3, bit2, read, spelled}

@@ -1,7 +1,6 @@
 pub mod Layout
 pub mod Short
 pub mod Enhanced
-pub mod EnhancedLaw
-pub mod Numbers
-pub mod Layouts
+pub mod LayoutLaw
 pub mod ShortLaw
+pub mod EnhancedLaw

@@ -1,11 +1,11 @@
 -- The short format: 16 pairs.
-use Rattle.std.specs.Prelude.{◌≡◌, ℕ, ◌<◌, List, [], ◌∷◌, Some}
+use Rattle.std.specs.Prelude.{◌≡◌, ◌<◌, List, [], ◌∷◌, Some}
 use Rattle.checks.specs.Checks.{check4}
 use Rattle.serial.specs.declared.pair.Pair.{Pair}
 use Rattle.formats.specs.declared.short.ShortMessage.{ShortMessage}
 use Rattle.serial.specs.Pairs.{Position, bit3, bits3, bits2, spelled}
 use Rattle.serial.specs.Format.{Format}
-use Rattle.formats.specs.Layout.{Layout, Field, format_by, written_by}
+use Rattle.formats.specs.Layout.{Layout, format_by, written_by}
 
 -- only the first pair has bit 3 set; bit 2 carries the id, then the data, then the check nibble of both
 abbrev pub layout : Layout

@@ -2,8 +2,8 @@ use Rattle.std.proofs.Common.{◌≡◌, ℕ, List, [], ◌∷◌, map, ◌∙�
 use Rattle.checks.specs.Checks.{check6}
 use Rattle.serial.specs.Pairs.{spelled}
 use Rattle.formats.specs.Enhanced.{layout}
-use Rattle.formats.specs.Layouts.{check_agreed}
-use Rattle.formats.specs.EnhancedLaw.{groups_wide}
+use Rattle.formats.proofs.Layouts.{check_agreed}
+use Rattle.formats.proofs.EnhancedLaw.{groups_wide}
 use Rattle.formats.proofs.enhanced.check_agrees.Goals as goal
 
 pub returns : goal.returns

@@ -1,9 +1,9 @@
-use Rattle.std.proofs.Common.{◌≡◌, ℕ, List, [], ◌∷◌, map, ◌∙◌, ap₂}
+use Rattle.std.proofs.Common.{◌≡◌, ℕ, List, [], ◌∷◌, map, ◌∙◌}
 use Rattle.checks.specs.Checks.{check4}
 use Rattle.serial.specs.Pairs.{spelled}
 use Rattle.formats.specs.Short.{layout}
-use Rattle.formats.specs.Layouts.{check_agreed}
-use Rattle.formats.specs.ShortLaw.{groups_wide}
+use Rattle.formats.proofs.Layouts.{check_agreed}
+use Rattle.formats.proofs.ShortLaw.{groups_wide}
 use Rattle.formats.proofs.short.check_agrees.Goals as goal
 
 pub returns : goal.returns

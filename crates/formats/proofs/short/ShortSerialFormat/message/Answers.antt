@@ -1,25 +1,14 @@
-use Rattle.std.proofs.Common.{sym, rules}
-use Rattle.formats.specs.Short.{layout}
-use Rattle.formats.specs.Layouts.{framed_length}
-use Rattle.formats.specs.ShortLaw.{told_within_the_fields, each_message_has_its_list}
+use Rattle.formats.proofs.ShortLaw.{told_within_the_fields, each_message_has_its_list}
 use Rattle.formats.proofs.short.ShortSerialFormat.message.Goals as goal
 
-pub check-agrees-requires : goal.check-agrees-requires
-check-agrees-requires c = framed_length layout c.args.pairs.now (sym c.if-matches.ensures)
+pub returns-then-check_agrees-clause-told_within_the_fields : goal.returns-then-check_agrees-clause-told_within_the_fields
+returns-then-check_agrees-clause-told_within_the_fields c = told_within_the_fields
 
-pub read-content-requires : goal.read-content-requires
-read-content-requires c = framed_length layout c.args.pairs.now (sym c.if-matches.ensures)
+pub returns-then-check_agrees-clause-each_message_has_its_list : goal.returns-then-check_agrees-clause-each_message_has_its_list
+returns-then-check_agrees-clause-each_message_has_its_list c = each_message_has_its_list
 
-pub returns-then-check-agrees : goal.returns-then-check-agrees
-returns-then-check-agrees c = record {
-  told = search rules;
-  told_within_the_fields = told_within_the_fields;
-  each_message_has_its_list = each_message_has_its_list;
-}
+pub returns-else-matches-clause-told_within_the_fields : goal.returns-else-matches-clause-told_within_the_fields
+returns-else-matches-clause-told_within_the_fields c = told_within_the_fields
 
-pub returns-else-matches : goal.returns-else-matches
-returns-else-matches c = record {
-  told = search rules;
-  told_within_the_fields = told_within_the_fields;
-  each_message_has_its_list = each_message_has_its_list;
-}
+pub returns-else-matches-clause-each_message_has_its_list : goal.returns-else-matches-clause-each_message_has_its_list
+returns-else-matches-clause-each_message_has_its_list c = each_message_has_its_list

@@ -1,18 +1,15 @@
 -- The law of every format that goes by a layout: one computed test of the layout's positions is all that it needs.
-use Rattle.std.specs.Prelude.{◌≡◌, ℕ, zero, suc, ◌+◌, ◌%◌, ◌^◌, ◌<◌, ◌≤◌, Bool, true, false, cond, not, ◌&&◌, ◌||◌, T, List, [], ◌∷◌, ◌++◌, map, length, get_or, take, drop, is_some, Some, None, Option, ◌==◌, ◌≢◌, nat_eq, nat_lt, slice_index_or, refl}
-use Rattle.std.proofs.Common.{sym, ap, ap₂, subst, ◌∙◌, inl, inr, arith}
-use Rattle.std.proofs.lemmas.List.{get_or-take, get_or-drop, get_or_append_left, drop_more}
-use Rattle.std.proofs.lemmas.Bool.{and_parts, and_from, cond-true, eq-eqb, or_cases, eqb-true, ltb-true, not-true, both_ways, true≢false}
-use Rattle.std.specs.List.{AllByRecursion}
-use Rattle.checks.proofs.Width.{cut_leaves}
+use Rattle.std.specs.Prelude.{◌≡◌, ℕ, ◌+◌, ◌<◌, ◌≤◌, Bool, true, false, cond, not, ◌&&◌, ◌||◌, T, List, [], ◌∷◌, ◌++◌, length, take, drop, is_some, Some, None, ◌==◌, ◌≢◌, nat_lt, slice_index_or, refl}
+use Rattle.std.proofs.Common.{sym, ap, subst, ◌∙◌, inl, inr}
+use Rattle.std.proofs.Math.Nat.{lt_irrefl}
+use Rattle.std.proofs.lemmas.Bool.{and_parts, or_cases, eqb-true, ltb-true, not-true, both_ways, true≢false}
 use Rattle.checks.proofs.Upto.{upto, upto_at}
 use Rattle.serial.specs.declared.pair.Pair.{Pair}
-use Rattle.serial.specs.Pairs.{Position, bit3, bit2, bits3, blank, none_high, read, spelled}
-use Rattle.serial.specs.Format.{Format, LawfulFormat}
-use Rattle.formats.specs.Layout.{Layout, each, framed_by, lawful_by, check_fits, format_by, same_position}
-use Rattle.formats.specs.Numbers.{spelled_below}
-use Rattle.serial.proofs.Joined.{Inside, apart_from}
+use Rattle.serial.specs.Pairs.{Position, bit3, bit2, blank, read}
+use Rattle.serial.specs.Format.{LawfulFormat}
+use Rattle.serial.proofs.Joined.{Inside, apart_from, stretch_at}
 use Rattle.serial.proofs.Truths.{so, is_so}
+use Rattle.formats.specs.Layout.{Layout, each, framed_by, lawful_by, check_fits, format_by, same_position}
 
 -- the position i pairs on
 abbrev shift : ℕ → Position → Position
@@ -37,10 +34,10 @@ abbrev pub separated : Layout → Bool
 separated l = upto l.size (λ i. (i == 0) || clash l.size i l.ones l.zeros)
 
 same_read : (ps : List Pair) (p q : Position) → same_position p q ≡ true → read ps p ≡ read ps q
-same_read ps (bit3 j) (bit3 k) e = ap (λ (i : ℕ). (get_or ps i blank).high) (eqb-true j k e)
+same_read ps (bit3 j) (bit3 k) e = ap (λ (i : ℕ). (slice_index_or ps i blank).high) (eqb-true j k e)
 same_read ps (bit3 j) (bit2 k) e = absurd (true≢false (sym e))
 same_read ps (bit2 j) (bit3 k) e = absurd (true≢false (sym e))
-same_read ps (bit2 j) (bit2 k) e = ap (λ (i : ℕ). (get_or ps i blank).low) (eqb-true j k e)
+same_read ps (bit2 j) (bit2 k) e = ap (λ (i : ℕ). (slice_index_or ps i blank).low) (eqb-true j k e)
 
 zero_read : (ps : List Pair) (p : Position) (zeros : List Position) → among p zeros ≡ true → each false ps zeros ≡ true → read ps p ≡ false
 zero_read ps p [] a e = absurd (true≢false (sym a))
@@ -51,7 +48,7 @@ zero_read ps p (q ∷ qs) a e =
       | inr r ↦ zero_read ps p qs r h.1
     ]
 
-module _ (n i : ℕ) (l s : List Pair) (shifted-read : (p : Position) → inside_pairs n (shift i p) ≡ true → read s p ≡ read l (shift i p)) where
+module _ (n i : ℕ) (l s : List Pair) (shifted_read : (p : Position) → inside_pairs n (shift i p) ≡ true → read s p ≡ read l (shift i p)) where
   no_match : (ones zeros : List Position) → clash n i ones zeros ≡ true → each true s ones ≡ true → each false l zeros ≢ true
   no_match [] zeros c o z = true≢false (sym c)
   no_match (p ∷ ones) zeros c o z =
@@ -59,14 +56,9 @@ module _ (n i : ℕ) (l s : List Pair) (shifted-read : (p : Position) → inside
       elim (or_cases (inside_pairs n (shift i p) && among (shift i p) zeros) (clash n i ones zeros) c) [
         | inl both ↦
             let g = and_parts (inside_pairs n (shift i p)) (among (shift i p) zeros) both in
-            both_ways (read s p) (shifted-read p g.0 ∙ zero_read l (shift i p) zeros g.1 z) h.0
+            both_ways (read s p) (shifted_read p g.0 ∙ zero_read l (shift i p) zeros g.1 z) h.0
         | inr more ↦ no_match ones zeros more h.1 z
       ]
-
--- what a stretch of n pairs that begins at i in a list of n pairs reads, as far as it reaches in that list
-stretch_at : (n i k : ℕ) (l rest : List Pair) → length l ≡ n → i + k < n → slice_index_or (take n (drop i (l ++ rest))) k blank ≡ slice_index_or l (i + k) blank
-stretch_at n i k l rest len h =
-    get_or-take n (drop i (l ++ rest)) k blank (omega arith) ∙ get_or-drop i (l ++ rest) k blank ∙ get_or_append_left l rest blank (i + k) (omega arith)
 
 stretch_read : (n i : ℕ) (l rest : List Pair) → length l ≡ n → (p : Position) → inside_pairs n (shift i p) ≡ true → read (take n (drop i (l ++ rest))) p ≡ read l (shift i p)
 stretch_read n i l rest len (bit3 k) t = ap (λ (q : Pair). q.high) (stretch_at n i k l rest len (ltb-true (i + k) n t))
@@ -76,28 +68,11 @@ some_told : {M : Type 0} (b : Bool) (m : M) → b ≡ is_some (cond b (Some m) N
 some_told true m = refl
 some_told false m = refl
 
--- what a told message is
-pub told_content : {M : Type 0} (b : Bool) (x m : M) → cond b (Some x) None ≡ Some m → x ≡ m
-told_content true x m e = cc
-told_content false x m e = let z : ◌≡◌ {A = ℕ} 0 1 = cc in absurd (omega arith)
-
--- groups of w bits are below 2^w
-pub all_spelled : (w : ℕ) (ps : List Pair) (groups : List (List Position)) → AllByRecursion (λ at. length at ≡ w) groups → AllByRecursion (λ v. v < 2 ^ w) (map (spelled ps) groups)
-all_spelled w ps [] wide = tt
-all_spelled w ps (at ∷ groups) wide = (subst (λ (k : ℕ). spelled ps at < 2 ^ k) wide.0 (spelled_below ps at), all_spelled w ps groups wide.1)
-
 -- a list that matches has the length of the layout
 pub framed_length : (l : Layout) (ps : List Pair) → framed_by l ps ≡ true → length ps ≡ l.size
 framed_length l ps e = eqb-true (length ps) l.size (and_parts (length ps == l.size) (each true ps l.ones && each false ps l.zeros) e).0
 
 module _ {M : Type 0} (l : Layout) (check : List ℕ → ℕ) (content : List Pair → M) where
-  -- a list that matches and whose check fits tells its content
-  pub told_as : (ps : List Pair) (m : M) → framed_by l ps ≡ true → check (map (spelled ps) l.covered) ≡ spelled ps l.check_bits → content ps ≡ m → (format_by l check content).told ps ≡ Some m
-  told_as ps m framed fits is =
-      cond-true (lawful_by l check ps) (Some (content ps)) None
-      (and_from (framed_by l ps) (check_fits l check ps) framed (eq-eqb (check (map (spelled ps) l.covered)) (spelled ps l.check_bits) fits))
-      ∙ ap Some is
-
   framed_ones : (ps : List Pair) → framed_by l ps ≡ true → each true ps l.ones ≡ true
   framed_ones ps e =
       (and_parts (each true ps l.ones) (each false ps l.zeros)
@@ -118,7 +93,7 @@ module _ {M : Type 0} (l : Layout) (check : List ℕ → ℕ) (content : List Pa
       let fx : framed_by l xs ≡ true = lawful_framed xs t in
       let fs : framed_by l s ≡ true = is_so (framed_by l s) m in
       elim (or_cases (i == 0) (clash n i l.ones l.zeros) (upto_at n (λ i. (i == 0) || clash n i l.ones l.zeros) sep i h)) [
-        | inl z ↦ let e : i ≡ 0 = eqb-true i 0 z in absurd (omega arith)
+        | inl z ↦ absurd (lt_irrefl 0 (subst (λ (j : ℕ). 0 < j) (eqb-true i 0 z) p))
         | inr c ↦ no_match n i xs s (stretch_read n i xs rest (framed_length l xs fx)) l.ones l.zeros c (framed_ones s fs) (framed_zeros xs fx)
       ]
 
@@ -131,19 +106,3 @@ module _ {M : Type 0} (l : Layout) (check : List ℕ → ℕ) (content : List Pa
     lawful_is_told = λ ps. some_told (lawful_by l check ps) (content ps);
     apart = apart_from (format_by l check content) some (λ ps t. framed_length l ps (lawful_framed ps t)) (none_inside sep);
   }
-
--- bit 3 of neighbouring pairs, read as a part of the list
-pub part_clear : (n k : ℕ) (ps : List Pair) → k + n ≤ length ps → none_high (take n (drop k ps)) ≡ each false ps (bits3 k n)
-part_clear zero k ps h = refl
-part_clear (suc n) k ps h =
-    let here : k < length ps = omega arith in
-    ap (λ (qs : List Pair). none_high (take (suc n) qs)) (drop_more ps k blank here)
-    ∙ ap (λ (b : Bool). not (get_or ps k blank).high && b) (part_clear n (k + 1) ps (omega arith))
-
--- the check as the code takes it, of groups cut to the width of the check
-pub check_agreed : (l : Layout) (check : List ℕ → ℕ) (w : ℕ) (ps : List Pair) → AllByRecursion (λ at. length at ≡ w) l.covered → (groups : List ℕ) (checked sent : ℕ)
-    → groups ≡ map (spelled ps) l.covered → checked ≡ check (map (λ v. v % 2 ^ w) groups) → sent ≡ spelled ps l.check_bits → (checked == sent) ≡ check_fits l check ps
-check_agreed l check w ps wide groups checked sent g e f =
-    ap₂ nat_eq
-    (e ∙ ap (λ (vs : List ℕ). check (map (λ v. v % 2 ^ w) vs)) g ∙ ap check (cut_leaves (2 ^ w) (map (spelled ps) l.covered) (all_spelled w ps l.covered wide)))
-    f

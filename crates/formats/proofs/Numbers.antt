@@ -1,17 +1,11 @@
 -- The number that bits make.
 use Rattle.std.specs.Prelude.{◌≡◌, ℕ, zero, suc, ◌+◌, ◌*◌, ◌/◌, ◌%◌, ◌^◌, ◌<◌, ◌≤◌, Bool, true, false, List, [], ◌∷◌, map, length, ◌==◌, refl}
-use Rattle.std.proofs.Common.{sym, ap, ap₂, subst, ◌∙◌, inl, inr, mul_assoc, add-mul, mod-eq_of_lt, arith}
+use Rattle.std.proofs.Common.{ap, subst, ◌∙◌, mul_assoc, add-mul, mod-eq_of_lt, arith}
 use Rattle.std.proofs.Math.Nat.{mod-one}
-use mir.Val.{bool_byte}
 use Rattle.std.proofs.lemmas.Nat.{pow-add, mod-pow-add, mod_below, pow_pos}
 use Rattle.std.proofs.lemmas.List.{length-map}
-use Rattle.std.proofs.lemmas.Bool.{cases_lt}
 use Rattle.serial.specs.declared.pair.Pair.{Pair}
 use Rattle.serial.specs.Pairs.{Position, digit, onto, number, read, spelled}
-
-pub byte_digit : (b : Bool) → bool_byte b ≡ digit b
-byte_digit true = refl
-byte_digit false = refl
 
 pub digit_small : (b : Bool) → digit b ≤ 1
 digit_small true = omega arith

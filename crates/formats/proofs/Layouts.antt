@@ -1,0 +1,36 @@
+-- What lists say by a layout: the message told, the numbers that the check covers, and the check as the code takes it.
+use Rattle.std.specs.Prelude.{◌≡◌, ℕ, ◌%◌, ◌^◌, ◌<◌, Bool, true, false, cond, List, [], ◌∷◌, map, length, Some, None, ◌==◌, nat_eq}
+use Rattle.std.proofs.Common.{ap, ap₂, subst, ◌∙◌, arith}
+use Rattle.std.proofs.lemmas.Bool.{and_from, cond-true, eq-eqb}
+use Rattle.std.specs.List.{AllByRecursion}
+use Rattle.checks.proofs.Width.{cut_leaves}
+use Rattle.serial.specs.declared.pair.Pair.{Pair}
+use Rattle.serial.specs.Pairs.{Position, spelled}
+use Rattle.formats.specs.Layout.{Layout, framed_by, lawful_by, check_fits, format_by}
+use Rattle.formats.proofs.Numbers.{spelled_below}
+
+-- what a told message is
+pub told_content : {M : Type 0} (b : Bool) (x m : M) → cond b (Some x) None ≡ Some m → x ≡ m
+told_content true x m e = cc
+told_content false x m e = let z : ◌≡◌ {A = ℕ} 0 1 = cc in absurd (omega arith)
+
+-- groups of w bits are below 2^w
+pub all_spelled : (w : ℕ) (ps : List Pair) (groups : List (List Position)) → AllByRecursion (λ at. length at ≡ w) groups → AllByRecursion (λ v. v < 2 ^ w) (map (spelled ps) groups)
+all_spelled w ps [] wide = tt
+all_spelled w ps (at ∷ groups) wide = (subst (λ (k : ℕ). spelled ps at < 2 ^ k) wide.0 (spelled_below ps at), all_spelled w ps groups wide.1)
+
+module _ {M : Type 0} (l : Layout) (check : List ℕ → ℕ) (content : List Pair → M) where
+  -- a list that matches and whose check fits tells its content
+  pub told_as : (ps : List Pair) (m : M) → framed_by l ps ≡ true → check (map (spelled ps) l.covered) ≡ spelled ps l.check_bits → content ps ≡ m → (format_by l check content).told ps ≡ Some m
+  told_as ps m framed fits is =
+      cond-true (lawful_by l check ps) (Some (content ps)) None
+      (and_from (framed_by l ps) (check_fits l check ps) framed (eq-eqb (check (map (spelled ps) l.covered)) (spelled ps l.check_bits) fits))
+      ∙ ap Some is
+
+-- the check as the code takes it, of groups cut to the width of the check
+pub check_agreed : (l : Layout) (check : List ℕ → ℕ) (w : ℕ) (ps : List Pair) → AllByRecursion (λ at. length at ≡ w) l.covered → (groups : List ℕ) (checked sent : ℕ)
+    → groups ≡ map (spelled ps) l.covered → checked ≡ check (map (λ v. v % 2 ^ w) groups) → sent ≡ spelled ps l.check_bits → (checked == sent) ≡ check_fits l check ps
+check_agreed l check w ps wide groups checked sent g e f =
+    ap₂ nat_eq
+    (e ∙ ap (λ (vs : List ℕ). check (map (λ v. v % 2 ^ w) vs)) g ∙ ap check (cut_leaves (2 ^ w) (map (spelled ps) l.covered) (all_spelled w ps l.covered wide)))
+    f
