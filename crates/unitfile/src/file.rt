@@ -5,7 +5,7 @@ ghost use Rattle.records.specs.declared.record.Kind.TheVariants.{Counter, Log};
 ghost use Rattle.records.specs.Checked.{checked};
 ghost use Rattle.captures.specs.Times.{capture_events};
 ghost use Rattle.captures.specs.Sources.{counter_left, log_left};
-ghost use Rattle.unitfile.specs.Files.{file_number, file_record, file_side, number_at, head_at, head_of, laid-out, channel_refused, kind_of, capture_of, file_refused, capture_a, capture_b, FileRead, Encoding, EncodingsAccepted};
+ghost use Rattle.unitfile.specs.Files.{file_number, file_record, file_side, number_at, head_at, head_of, laid_out, channel_refused, kind_of, capture_of, file_refused, capture_a, capture_b, FileRead, Encoding, EncodingsAccepted};
 
 use captures::absolute::AbsoluteLog;
 use captures::counter::CounterCapture;
@@ -116,7 +116,7 @@ struct Heads {
 }
 
 fn read_heads(bytes: &[u8]) -> Option<Heads>
-    ensures { MatchOption result (laid-out bytes.now ≡ false) (λ h. (laid-out bytes.now ≡ true) × (h.a ≡ head_of ChannelA bytes.now) × (h.b ≡ head_of ChannelB bytes.now)) }
+    ensures { MatchOption result (laid_out bytes.now ≡ false) (λ h. (laid_out bytes.now ≡ true) × (h.a ≡ head_of ChannelA bytes.now) × (h.b ≡ head_of ChannelB bytes.now)) }
 {
     if bytes.len() < HEADER || bytes.len() > MOST_BYTES {
         return None;
@@ -149,7 +149,7 @@ struct Parts<'a> {
 }
 
 fn read_layout<'a>(bytes: &'a [u8]) -> Option<Parts<'a>>
-    ensures { MatchOption result (laid-out bytes.now ≡ false) (λ p. (laid-out bytes.now ≡ true) × (p.heads.a ≡ head_of ChannelA bytes.now) × (p.heads.b ≡ head_of ChannelB bytes.now) × (p.captures.a.now ≡ capture_of ChannelA bytes.now) × (p.captures.b.now ≡ capture_of ChannelB bytes.now)) }
+    ensures { MatchOption result (laid_out bytes.now ≡ false) (λ p. (laid_out bytes.now ≡ true) × (p.heads.a ≡ head_of ChannelA bytes.now) × (p.heads.b ≡ head_of ChannelB bytes.now) × (p.captures.a.now ≡ capture_of ChannelA bytes.now) × (p.captures.b.now ≡ capture_of ChannelB bytes.now)) }
 {
     let Some(heads) = read_heads(bytes) else {
         return None;
@@ -186,7 +186,7 @@ fn judge(
     check_a: Result<(), CheckRefusal>,
     check_b: Result<(), CheckRefusal>,
 ) -> Result<UnitFile, FileRefusal>
-    requires laid_out { laid-out bytes.now ≡ true }
+    requires laid_out { laid_out bytes.now ≡ true }
     requires heads { (parts.heads.a ≡ head_of ChannelA bytes.now) × (parts.heads.b ≡ head_of ChannelB bytes.now) }
     requires captures { (parts.captures.a.now ≡ capture_of ChannelA bytes.now) × (parts.captures.b.now ≡ capture_of ChannelB bytes.now) }
     requires a { MatchResult check_a (λ _. checked Counter parts.captures.a.now ≡ None) (λ e. checked Counter parts.captures.a.now ≡ Some e) }

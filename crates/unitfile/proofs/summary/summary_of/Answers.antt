@@ -1,4 +1,4 @@
-use Rattle.std.proofs.Common.{◌≡◌, ℕ, ◌+◌, ◌^◌, ◌<◌, List, [], sym, ap, ◌∙◌, subst, arith, rules}
+use Rattle.std.proofs.Common.{◌≡◌, ◌+◌, List, [], sym, ap, ◌∙◌}
 use Rattle.model.specs.declared.event.Event.{Event}
 use Rattle.unitfile.specs.Summaries.{edges_of, breaks_of, capped}
 use Rattle.unitfile.proofs.Spans.{continued, none_left, counted_all, continued_none}
@@ -6,7 +6,7 @@ use Rattle.unitfile.proofs.summary.summary_of.Goals as goal
 
 pub returns : goal.returns
 returns g c =
-    let empty : g.S.EdgeSource.events c.loop-event.source ≡ [] = none_left _ c.in-default.ensures.answer in
+    let empty : g.S.EdgeSource.events c.loop-event.source ≡ [] = none_left _ c.in_default.ensures.answer in
     let inv = c.loop-event.invariant in
     record {
       edges = counted_all _ _ inv.3 (ap (λ (es : List Event). capped (c.loop-event.edges + edges_of es)) (sym empty) ∙ inv.0);

@@ -6,6 +6,6 @@ pub returns : goal.returns
 returns c =
     record {
       contents = c.read_parts.ensures;
-      accepted_is_an_encoding = accepted_is_an_encoding c.args.bytes.now (λ i. omega (arith, c.type-inv.bytes i)) c.read_parts.result c.read_parts.ensures;
+      accepted_is_an_encoding = accepted_is_an_encoding c.args.bytes.now (λ i. omega (arith, c.type_inv.bytes i)) c.read_parts.result c.read_parts.ensures;
       encodings_accepted = encodings_accepted c.args.bytes.now c.read_parts.result c.read_parts.ensures;
     }
