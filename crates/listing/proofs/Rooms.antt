@@ -1,7 +1,6 @@
 -- A listing fits into the room of its file's length, and its run is lawful.
-use Rattle.std.proofs.Common.{◌≡◌, ℕ, ◌+◌, ◌-◌, ◌*◌, ◌/◌, ◌≤◌, min, true, false, cond, List, length, take, drop, Some, None, sym, refl, ap, ◌∙◌, subst, arith}
+use Rattle.std.proofs.Common.{◌≡◌, ℕ, ◌+◌, ◌*◌, ◌≤◌, true, false, cond, List, length, drop, Some, None, refl, arith}
 use Rattle.std.proofs.lemmas.List.{length-drop, length-take}
-use Rattle.model.specs.declared.event.Event.{Event}
 use Rattle.model.specs.declared.side.Side.TheVariants.{A as SideA, B as SideB}
 use Rattle.model.specs.Events.{Lawful}
 use Rattle.records.specs.declared.record.Kind.TheVariants.{Counter, Log}
@@ -16,7 +15,8 @@ use Rattle.std.proofs.lemmas.Bool.Decides.{nat_tests}
 use Rattle.receiver.specs.Units.{new}
 use Rattle.runs.specs.Law.{steps}
 use Rattle.runs.proofs.Every.{every_run_lawful}
-use Rattle.listing.specs.Listings.{events_left, file_lists, ceiling, listing_setup, LawfulListing}
+use Rattle.runs.proofs.Lawful.{answered_in_turn}
+use Rattle.listing.specs.Listings.{events_left, file_lists, ceiling, listing_setup, LawfulListing, ListedInTurn}
 use Rattle.listing.proofs.Stepping.{runs_out}
 
 -- a file that is accepted is not too long
@@ -46,3 +46,8 @@ lawful_listing xs u la lb =
       until_refused = runs_out (listing_setup u.a u.b) _ (new (file_lists xs)) refl;
       every_run_lawful = every_run_lawful _ _ _ _ short_lawful enhanced_lawful la lb (steps (events_left (new (file_lists xs))));
     }
+
+-- its run is answered in turn, whatever its file
+pub listed_in_turn : (input : List ℕ) → ListedInTurn input
+listed_in_turn input u h =
+    answered_in_turn (listing_setup u.a u.b) (file_lists input) (steps (events_left (new (file_lists input))))

@@ -1,5 +1,5 @@
 -- What the numbers of a range give, one after the other.
-use Rattle.std.proofs.Common.{◌≡◌, ℕ, zero, suc, ◌+◌, ◌<◌, ◌≤◌, List, [], ◌∷◌, ◌++◌, sym, refl, ap, ◌∙◌, ap₂, append_assoc, arith}
+use Rattle.std.proofs.Common.{◌≡◌, ℕ, zero, suc, ◌+◌, ◌<◌, ◌≤◌, List, [], ◌++◌, sym, refl, ap, ◌∙◌, ap₂, append_assoc, arith}
 
 -- what g gives at n numbers, from a on
 abbrev pub across : {X : Type 0} → (ℕ → List X) → ℕ → ℕ → List X

@@ -1,5 +1,5 @@
 -- A channel is undisturbed: what it reports in any run begins what it reports beside an empty source.
-use Rattle.std.proofs.Common.{◌≡◌, ℕ, Bool, true, false, cond, ltb, List, [], ◌∷◌, ◌++◌, length, Some, None, sym, refl, ap, ◌∙◌, append_assoc, append-nil, arith}
+use Rattle.std.proofs.Common.{◌≡◌, ℕ, Bool, true, false, cond, ltb, List, [], ◌∷◌, ◌++◌, length, Some, sym, refl, ap, ◌∙◌, append_assoc, append-nil, arith}
 use Rattle.model.specs.declared.event.Event.{Event}
 use Rattle.model.specs.declared.side.Side.{Side}
 use Rattle.model.specs.declared.side.Side.TheVariants.{A as SideA, B as SideB}
@@ -9,7 +9,7 @@ use Rattle.receiver.specs.declared.answer.Call.TheVariants.{Step as StepCall}
 use Rattle.receiver.specs.declared.answer.StepRefusal.TheVariants.{NoEvent}
 use Rattle.receiver.specs.declared.answer.Answer.TheVariants.{Refused}
 use Rattle.receiver.specs.Channels.{Rules, ChannelState, fresh, given}
-use Rattle.receiver.specs.Units.{Messages, Setup, UnitState, left, new, step_answer, answer, answers, after_all}
+use Rattle.receiver.specs.Units.{Setup, UnitState, left, new, step_answer, answer, answers, after_all}
 use Rattle.runs.specs.Traces.{collect, Said, said_by, Timed, timed, timed_reports}
 use Rattle.runs.specs.Law.{beside_empty, steps, RunsOut, reports_alone, Undisturbed}
 use Rattle.runs.proofs.Heard.{heard_after}

@@ -3,9 +3,8 @@ use Rattle.std.proofs.Common.{◌≡◌, ℕ, List, [], ◌∷◌, ◌++◌, sym
 use Rattle.std.proofs.lemmas.List.{map-append}
 use Rattle.model.specs.declared.event.Event.{Event}
 use Rattle.model.specs.declared.event.Event.TheVariants.{Edge}
-use Rattle.pulses.specs.declared.outcome.Outcome.{Outcome}
-use Rattle.pulses.specs.Steps.{PulseState, lost, step, outcomes, after}
-use Rattle.series.specs.Series.{Cut, past, CleanSeries, Received}
+use Rattle.pulses.specs.Steps.{PulseState, step, outcomes, after}
+use Rattle.series.specs.Series.{Cut, CleanSeries, Received}
 use Rattle.series.proofs.Receiving.{past_cut, clean_series_received}
 use Rattle.receiver.specs.Channels.{Rules, ChannelState, fresh, reports, given}
 use Rattle.runs.specs.Traces.{Entry, events_of}

@@ -7,7 +7,7 @@ use Rattle.model.specs.Events.{Lawful}
 use Rattle.serial.specs.Format.{LawfulFormat}
 use Rattle.receiver.specs.declared.answer.Call.{Call}
 use Rattle.receiver.specs.Channels.{Rules}
-use Rattle.receiver.specs.Units.{Setup, setup, lists, new, answers}
+use Rattle.receiver.specs.Units.{setup, lists, new, answers}
 use Rattle.runs.specs.Law.{LawfulRun, AnsweredInTurn}
 use Rattle.receiver.specs.declared.answer.Answer.{Answer}
 use Rattle.runs.specs.declared.run.RunRefusal.{RunRefusal}

@@ -1,5 +1,5 @@
 -- Every run of the unit is lawful.
-use Rattle.std.proofs.Common.{◌≡◌, ℕ, zero, suc, ◌≤◌, List, [], ◌∷◌, ◌++◌, length, take, drop, Some, None, Option, sym, refl, ap, ◌∙◌, subst, arith}
+use Rattle.std.proofs.Common.{◌≡◌, ℕ, zero, suc, List, [], ◌∷◌, ◌++◌, take, Some, None, Option, sym, refl, ap, ◌∙◌, subst, arith}
 use Rattle.model.specs.declared.event.Event.{Event}
 use Rattle.model.specs.declared.side.Side.{Side}
 use Rattle.model.specs.Events.{PrecedesAll, Lawful}
@@ -9,14 +9,14 @@ use Rattle.receiver.specs.declared.answer.Call.TheVariants.{Step as StepCall, Lo
 use Rattle.receiver.specs.declared.answer.Subject.TheVariants.{Reading as ReadingOf}
 use Rattle.receiver.specs.declared.answer.Answer.{Answer}
 use Rattle.receiver.specs.declared.answer.Answer.TheVariants.{Reading}
-use Rattle.receiver.specs.Channels.{Rules, ChannelState, fresh, reading_of}
+use Rattle.receiver.specs.Channels.{ChannelState, fresh, reading_of}
 use Rattle.receiver.specs.Units.{Setup, UnitState, channel, left, new, answer, after, answers, after_all, figures}
 use Rattle.runs.specs.Traces.{Entry, said_by, trace, events_of, outcomes_of}
 use Rattle.runs.specs.Law.{MessagesWhole, latest_of, nth_of, LawfulChannel, LawfulRun, AnsweredInTurn}
 use Rattle.series.specs.Series.{CleanSeriesReceived, MovedEdgesTolerated}
 use Rattle.runs.specs.Law.{SerialTold, FaultsTold, ClosingTold}
 use Rattle.runs.proofs.Heard.{heard, heard_after}
-use Rattle.runs.proofs.Tracing.{Advance, run_advances, trace_is_heard, run_paired, heard_clean_received, heard_moved_tolerated}
+use Rattle.runs.proofs.Tracing.{run_advances, trace_is_heard, run_paired, heard_clean_received, heard_moved_tolerated}
 use Rattle.runs.proofs.Alone.{run_undisturbed}
 use Rattle.runs.proofs.Told.{latest_told, serial_told, faults_told, closing_told}
 use Rattle.runs.proofs.Turns.{one_answer_each, in_turn}

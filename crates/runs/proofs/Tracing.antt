@@ -1,5 +1,5 @@
 -- What a unit's answers say of one channel: over the first events of its source's list, all that the channel says of them by itself.
-use Rattle.std.proofs.Common.{◌≡◌, ℕ, ◌+◌, ◌≤◌, List, [], ◌∷◌, ◌++◌, map, length, take, drop, Some, None, Option, sym, refl, ap, ◌∙◌, subst, ap₂, append_assoc, append-nil, arith, length-append}
+use Rattle.std.proofs.Common.{◌≡◌, ℕ, ◌+◌, List, [], ◌∷◌, ◌++◌, map, length, take, drop, Some, None, Option, sym, refl, ap, ◌∙◌, subst, ap₂, append_assoc, arith, length-append}
 use Rattle.std.proofs.lemmas.List.{take_at, drop_at, nil_from_length}
 use Rattle.model.specs.declared.event.Event.{Event}
 use Rattle.model.specs.declared.side.Side.{Side}
@@ -14,7 +14,7 @@ use Rattle.receiver.specs.declared.answer.Call.{Call}
 use Rattle.receiver.specs.declared.answer.Call.TheVariants.{Step as StepCall, Look}
 use Rattle.receiver.specs.declared.answer.Subject.TheVariants.{Reading as ReadingOf}
 use Rattle.receiver.specs.Channels.{Rules, ChannelState, fresh, reports, given}
-use Rattle.receiver.specs.Units.{Messages, Setup, UnitState, left, channel, new, due, answer_at, fed, step_answer, step_after, answer, after, answers, after_all}
+use Rattle.receiver.specs.Units.{Setup, UnitState, left, channel, new, due, answer_at, fed, step_answer, step_after, answer, after, answers, after_all}
 use Rattle.runs.specs.Traces.{Said, own, said_by, Entry, trace, events_of, outcomes_of}
 use Rattle.runs.specs.Law.{Paired}
 use Rattle.runs.proofs.Heard.{heard, heard_after, heard_events}

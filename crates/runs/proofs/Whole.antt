@@ -1,26 +1,23 @@
 -- Serial messages come out whole.
 use Rattle.std.proofs.Common.{◌≡◌, ℕ, ◌<◌, true, false, cond, List, [], ◌∷◌, ◌++◌, map, length, take, drop, Some, None, Option, sym, refl, ap, ◌∙◌, subst, ap₂, arith}
 use Rattle.std.specs.List.{AllByRecursion}
-use Rattle.std.proofs.lemmas.Bool.{cond_both}
 use Rattle.model.specs.declared.event.Event.{Event}
 use Rattle.model.specs.declared.event.Event.TheVariants.{Edge}
-use Rattle.model.specs.declared.fault.Fault.{Fault}
 use Rattle.model.specs.Events.{place_of, Lawful}
 use Rattle.pulses.specs.declared.frame.FrameRow.{FrameRow}
 use Rattle.pulses.specs.declared.outcome.Outcome.{Outcome}
 use Rattle.pulses.specs.declared.outcome.Outcome.TheVariants.{Quiet, Skipped, Framed, Failed}
 use Rattle.pulses.specs.Steps.{outcomes}
-use Rattle.series.specs.Sent.{Sent, next_place, frame_edges, series, series_end}
-use Rattle.series.specs.Series.{frames_of, faults_of, frames_sent}
+use Rattle.series.specs.Sent.{Sent, next_place, frame_edges, series_end}
+use Rattle.series.specs.Series.{frames_of, faults_of}
 use Rattle.serial.specs.declared.pair.Pair.{Pair}
-use Rattle.serial.specs.declared.report.SerialReport.{SerialReport}
 use Rattle.serial.specs.Format.{Format, LawfulFormat}
 use Rattle.serial.specs.Pairs.{pair_of}
 use Rattle.serial.specs.Windows.{Kept, pairs_of, first_place, judged, reported}
 use Rattle.receiver.specs.Channels.{Rules, ChannelState, fresh, kept_of, kept_after, serial_after, outcome_of, given}
 use Rattle.runs.specs.Traces.{Entry, Placed, events_of, messages_in, messages_of}
 use Rattle.runs.specs.Law.{pairs_sent, places_sent, placed, whole_messages, starting_from, MessagesWhole}
-use Rattle.runs.proofs.Heard.{heard, heard_after}
+use Rattle.runs.proofs.Heard.{heard}
 use Rattle.runs.proofs.Cutting.{channel_at, cut_rest, cut_events, cut_received}
 use Rattle.runs.proofs.Places.{Earlier, Onward, earlier_kept, lawful_before, lawful_above, kept_sent, sent_onward}
 use Rattle.runs.proofs.Windows.{told_by, told_along, along_is}

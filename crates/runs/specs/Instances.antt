@@ -1,6 +1,6 @@
 -- The law speaks of something: runs in which each of its parts has something to say.
 -- A's messages are short ones and B's enhanced ones.
-use Rattle.std.specs.Prelude.{◌≡◌, ℕ, ◌+◌, ◌-◌, ◌*◌, ◌≤◌, cond, not, List, [], ◌∷◌, ◌++◌, map, length, take, drop, set, replicate, Some, None, Option, slice_index_or, slice_set}
+use Rattle.std.specs.Prelude.{◌≡◌, ℕ, ◌+◌, ◌-◌, ◌*◌, ◌≤◌, cond, not, List, [], ◌∷◌, ◌++◌, map, length, take, drop, replicate, Some, None, Option, slice_index_or, slice_set}
 use Rattle.std.proofs.Common.{lit≤}
 use Rattle.model.specs.declared.settings.Settings.{Settings}
 use Rattle.model.specs.declared.event.Event.{Event}

@@ -4,7 +4,7 @@ use Rattle.listing.proofs.append.append_refusal.Goals as goal
 
 pub returns : goal.returns
 returns c =
-    let written = c.put-refusal-count.ensures in
+    let written = c.put_refusal-count.ensures in
     let appended = c.append_front.ensures in
     record {
       items = appended.items ∙ ap (λ (bytes : List ℕ). vec_items c.args.out ++ bytes) (front_written written.wrote);

@@ -2,8 +2,8 @@ use Rattle.std.proofs.Common.{arith}
 use Rattle.listing.proofs.Sizes.{word_short, length_lettered}
 use Rattle.listing.proofs.closing.put_closing.Goals as goal
 
-pub put-lettered-requires : goal.put-lettered-requires
-put-lettered-requires c = omega (arith, word_short c.args.frames_a (omega arith), word_short c.args.frames_b (omega arith))
+pub put_lettered-requires : goal.put_lettered-requires
+put_lettered-requires c = omega (arith, word_short c.args.frames_a (omega arith), word_short c.args.frames_b (omega arith))
 
 pub returns : goal.returns
 returns c =

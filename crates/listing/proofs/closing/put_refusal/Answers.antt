@@ -9,6 +9,6 @@ returns c =
     let letter : c.refused_letter.result ≡ refused_letter (file_side c.args.refusal) = c.refused_letter.ensures ∙ ap refused_letter c.side.ensures in
     let front : four_fields 82 c.number.result c.refused_letter.result c.place.result ≡ four_fields 82 (file_number c.args.refusal) (refused_letter (file_side c.args.refusal)) (file_record c.args.refusal) = cc in
     record {
-      wrote = wrote_then (omega arith) (wrote_as front c.put-four-at.ensures.wrote) (wrote_put (omega arith) c.put_end.ensures);
+      wrote = wrote_then (omega arith) (wrote_as front c.put_four-at.ensures.wrote) (wrote_put (omega arith) c.put_end.ensures);
       short = omega arith;
     }

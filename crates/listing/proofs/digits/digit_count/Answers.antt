@@ -39,5 +39,5 @@ returns-in-10000000000-to-99999999999 c = digits_are 10 c.args.n (omega arith) (
 pub returns-in-100000000000-to-999999999999 : goal.returns-in-100000000000-to-999999999999
 returns-in-100000000000-to-999999999999 c = digits_are 11 c.args.n (omega arith) (omega arith) (omega arith)
 
-pub returns-in-default : goal.returns-in-default
-returns-in-default c = digits_are 12 c.args.n (omega arith) (omega arith) (omega arith)
+pub returns-in_default : goal.returns-in_default
+returns-in_default c = digits_are 12 c.args.n (omega arith) (omega arith) (omega arith)

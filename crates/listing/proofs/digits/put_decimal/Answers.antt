@@ -5,8 +5,8 @@ use Rattle.listing.proofs.digits.put_decimal.Goals as goal
 pub loop-rest-init : goal.loop-rest-init
 loop-rest-init c = partly_none c.args.buffer.now c.args.at c.args.n _ (ap (λ k. c.args.at + k) c.digit_count.ensures)
 
-pub overflow-sub-place : goal.overflow-sub-place
-overflow-sub-place c = omega (arith, partly_room (omega arith) c.loop-rest.invariant)
+pub overflow_sub-place : goal.overflow_sub-place
+overflow_sub-place c = omega (arith, partly_room (omega arith) c.loop-rest.invariant)
 
 pub bounds-buffer-place : goal.bounds-buffer-place
 bounds-buffer-place c = omega (arith, partly_room (omega arith) c.loop-rest.invariant, partly_below c.loop-rest.invariant)

@@ -1,4 +1,4 @@
-use Rattle.std.proofs.Common.{◌≡◌, ◌+◌, [], ◌∷◌, map, length, take, ap, arith}
+use Rattle.std.proofs.Common.{◌≡◌, [], ◌∷◌, map, length, take, ap, arith}
 use lib.ListN.{length-map}
 use Rattle.std.proofs.lemmas.List.{take_all, length-take-le}
 use Rattle.listing.specs.Lines.{hex_digit}
@@ -16,7 +16,7 @@ put-at-requires c =
 pub loop-nibble-preserved : goal.loop-nibble-preserved
 loop-nibble-preserved c =
     let l : length (map hex_digit (take c.loop-nibble.nibble-index c.args.nibbles.now)) ≡ c.loop-nibble.nibble-index = simp length-map (length-take-le _ _ c.loop-nibble.invariant.0) in
-    (omega arith, wrote_next hex_digit c.args.nibbles.now c.loop-nibble.nibble-index (omega arith) c.loop-nibble-test.true c.loop-nibble.invariant.1 (wrote_as (ap (λ b. b ∷ []) c.hex.ensures.digit) (wrote_put (omega arith) c.put_at.ensures)))
+    (omega arith, wrote_next hex_digit c.args.nibbles.now c.loop-nibble.nibble-index (omega arith) c.loop-nibble-test.true c.loop-nibble.invariant.1 (wrote_as (ap (λ b. b ∷ []) c.hex.ensures.digit) (wrote_put (omega arith) c.put-at.ensures)))
 
 pub returns : goal.returns
 returns c = wrote_as (ap (map hex_digit) (take_all _ _ c.loop-nibble-test.false)) c.loop-nibble.invariant.1

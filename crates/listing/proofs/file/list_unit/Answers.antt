@@ -1,8 +1,8 @@
-use Rattle.std.proofs.Common.{◌≡◌, ℕ, ◌≤◌, List, ◌++◌, length, take, vec_items, sym, ap, ◌∙◌, append_assoc, arith, rules}
+use Rattle.std.proofs.Common.{◌≡◌, ℕ, List, ◌++◌, vec_items, sym, ap, ◌∙◌, append_assoc, arith, rules}
 use Rattle.std.proofs.lemmas.List.{append-nil}
 use Rattle.receiver.specs.Standing.{settings_of}
 use Rattle.receiver.specs.Receiving.{unit_of}
-use Rattle.listing.specs.Listings.{step_lines, unit_listing, events_left}
+use Rattle.listing.specs.Listings.{unit_listing, events_left}
 use Rattle.listing.proofs.Stepping.{lines_on, one_fewer_left}
 use Rattle.listing.proofs.Writes.{front_behind, wrote_length}
 use Rattle.listing.proofs.file.list_unit.Goals as goal
@@ -15,7 +15,7 @@ pub loop-step-preserved : goal.loop-step-preserved
 loop-step-preserved g c =
     let inv = c.loop-step.invariant in
     let stepped = c.in-Ok.ensures in
-    let put = c.put-step-at.ensures in
+    let put = c.put_step-at.ensures in
     let u = unit_of g.SA.EdgeSource.events g.SB.EdgeSource.events c.loop-step.unit in
     let v = unit_of g.SA.EdgeSource.events g.SB.EdgeSource.events c.step.new.self in
     let a = settings_of c.loop-step.unit.channel_a in
@@ -36,12 +36,12 @@ pub loop-step-preserved-then-at : goal.loop-step-preserved-then-at
 loop-step-preserved-then-at g c =
     let inv = c.loop-step.invariant in
     let stepped = c.in-Ok.ensures in
-    let put = c.put-step-at.ensures in
+    let put = c.put_step-at.ensures in
     let u = unit_of g.SA.EdgeSource.events g.SB.EdgeSource.events c.loop-step.unit in
     let v = unit_of g.SA.EdgeSource.events g.SB.EdgeSource.events c.step.new.self in
     let a = settings_of c.loop-step.unit.channel_a in
     let b = settings_of c.loop-step.unit.channel_b in
-    let appended = c.append-front-bytes.ensures in
+    let appended = c.append_front-bytes.ensures in
     let fewer = one_fewer_left c.args.settings_a c.args.settings_b a b inv.1 inv.2 u v c.in-Ok.step stepped.answer stepped.left in
     let long = inv.5 in (
       ap (λ (zs : List ℕ). zs ++ unit_listing c.args.settings_a c.args.settings_b v) (append-nil _ ∙ appended.items)
@@ -58,7 +58,7 @@ loop-step-preserved-then-at g c =
 pub returns : goal.returns
 returns g c =
     let inv = c.loop-step.invariant in
-    let whole = c.append-front-whole.ensures in
+    let whole = c.append_front-whole.ensures in
     let appended = c.append_closing.ensures in
     record {
       items = search rules;

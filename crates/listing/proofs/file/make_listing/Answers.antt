@@ -24,8 +24,8 @@ module _ (xs : List ℕ) (a b : List Event) {r : Result UnitFile FileRefusal} {f
   its_events h =
       subst (λ (o : Result UnitFile FileRefusal). MatchResult o (λ u. (a ≡ capture_events Counter (capture_a u xs)) × (b ≡ capture_events Log (capture_b u xs))) (λ e. (a ≡ []) × (b ≡ []))) is h
 
-pub list-unit-requires : goal.list-unit-requires
-list-unit-requires c =
+pub list_unit-requires : goal.list_unit-requires
+list_unit-requires c =
     let xs = c.args.input.now in
     let file : UnitFile = c.in-Ok.file in
     let read = was_read xs [] [] c.in-Ok.is c.open-open.ensures.contents in

@@ -3,8 +3,8 @@ use Rattle.listing.proofs.Sizes.{half_short, length_lettered}
 use Rattle.listing.proofs.Writes.{put_then}
 use Rattle.listing.proofs.line.put_message.Goals as goal
 
-pub put-lettered-requires : goal.put-lettered-requires
-put-lettered-requires c =
+pub put_lettered-requires : goal.put_lettered-requires
+put_lettered-requires c =
     omega (arith, half_short c.args.id (omega arith), half_short c.args.«data» (omega arith))
 
 pub returns : goal.returns
@@ -13,6 +13,6 @@ returns c =
     let i = half_short c.args.id (omega arith) in
     let d = half_short c.args.«data» (omega arith) in
     record {
-      wrote = put_then (omega arith) c.put-space-at.ensures c.put_lettered.ensures;
+      wrote = put_then (omega arith) c.put_space-at.ensures c.put_lettered.ensures;
       short = omega arith;
     }

@@ -3,4 +3,4 @@ use Rattle.listing.proofs.Writes.{wrote_then}
 use Rattle.listing.proofs.steps.put_b.Goals as goal
 
 pub returns : goal.returns
-returns c = record { wrote = wrote_then (omega arith) c.put-pulse-behind.ensures.wrote c.put_enhanced.ensures.wrote; short = omega arith }
+returns c = record { wrote = wrote_then (omega arith) c.put_pulse-behind.ensures.wrote c.put_enhanced.ensures.wrote; short = omega arith }

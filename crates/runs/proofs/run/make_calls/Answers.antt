@@ -1,6 +1,5 @@
 use Rattle.std.proofs.Common.{◌<◌, ◌≤◌, length, ◌∙◌, arith, rules}
 use Rattle.receiver.specs.Standing.{settings_of}
-use Rattle.receiver.specs.Receiving.{unit_of}
 use Rattle.runs.proofs.Carrying.{answers_more, after_more, answers_all, after_all_made}
 use Rattle.runs.proofs.run.make_calls.Goals as goal
 

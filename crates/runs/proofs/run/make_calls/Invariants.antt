@@ -1,5 +1,4 @@
 use Rattle.std.proofs.Common.{◌≡◌, ◌≤◌, ◌++◌, length, drop, vec_items, vec_len, vec_capacity}
-use Rattle.receiver.specs.Standing.{settings_of}
 use Rattle.receiver.specs.Units.{answers, after_all}
 use Rattle.receiver.specs.Receiving.{unit_of, setup_of, SettingsStay}
 use Rattle.runs.proofs.run.make_calls.Given as goal
