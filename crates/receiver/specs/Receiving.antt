@@ -18,10 +18,10 @@ refusal_number NoEvent = 7
 
 -- the unit that is meant, where the sources mean these lists
 abbrev pub unit_of : {P Q F G : Type 0} → (P → List Event) → (Q → List Event) → Receiver P Q F G → UnitState
-unit_of from-a from-b u =
+unit_of from_a from_b u =
     record {
-      left_a = from-a u.source_a;
-      left_b = from-b u.source_b;
+      left_a = from_a u.source_a;
+      left_b = from_b u.source_b;
       channel_a = state_of u.channel_a;
       channel_b = state_of u.channel_b;
     }

@@ -1,6 +1,6 @@
 -- What the code's channel stands for.
 use Rattle.model.specs.declared.settings.Settings.{Settings}
-use Rattle.pulses.specs.Decoding.{state_of as pulse-state}
+use Rattle.pulses.specs.Decoding.{state_of as pulse_state}
 use Rattle.serial.specs.Format.{Format}
 use Rattle.serial.specs.Windows.{kept}
 use Rattle.receiver.specs.declared.channel.Channel.{Channel}
@@ -9,7 +9,7 @@ use Rattle.receiver.specs.Channels.{Rules, ChannelState}
 abbrev pub state_of : {F : Type 0} → Channel F → ChannelState
 state_of c =
     record {
-      pulses = pulse-state c.decoder;
+      pulses = pulse_state c.decoder;
       kept = kept c.window;
       latest = c.latest;
       frames = c.frames;

@@ -299,6 +299,6 @@ law_has_instances =
       figures_of_a = record { in_the_run = lit≤ tt; figures_then = refl; frames_reported = refl; faults_reported = refl };
       figures_of_b = record { in_the_run = lit≤ tt; figures_then = refl; frames_reported = refl; faults_reported = refl };
       serial_faults_not_counted = record { in_the_run = lit≤ tt; figures_then = refl; frames_reported = refl; faults_reported = refl };
-      order-by-time = refl;
+      order_by_time = refl;
       refused_at_the_end = refl;
     }

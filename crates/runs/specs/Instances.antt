@@ -24,8 +24,8 @@ use Rattle.serial.specs.declared.report.SerialReport.{SerialReport}
 use Rattle.serial.specs.declared.report.SerialReport.TheVariants.{Told, Failed as CheckFailed}
 use Rattle.serial.specs.Format.{joined, LawfulFormat}
 use Rattle.serial.specs.Pairs.{blank}
-use Rattle.formats.specs.Short.{short, sent as short-list}
-use Rattle.formats.specs.Enhanced.{enhanced, sent as enhanced-list}
+use Rattle.formats.specs.Short.{short, sent as short_list}
+use Rattle.formats.specs.Enhanced.{enhanced, sent as enhanced_list}
 use Rattle.receiver.specs.declared.answer.Reports.{Reports}
 use Rattle.receiver.specs.declared.answer.Step.TheVariants.{A as StepA, B as StepB}
 use Rattle.receiver.specs.declared.answer.StepRefusal.TheVariants.{NoEvent}
@@ -70,13 +70,13 @@ enhanced_message = record { configuration = Data16; id = 5; «data» = 0xA3C1 }
 
 -- the lists of three messages, of which that message is the middle one
 abbrev pub short_lists : List (List Pair)
-short_lists = short-list (record { id = 9; «data» = 0xC7 }) ∷ short-list short_message ∷ short-list (record { id = 14; «data» = 0x21 }) ∷ []
+short_lists = short_list (record { id = 9; «data» = 0xC7 }) ∷ short_list short_message ∷ short_list (record { id = 14; «data» = 0x21 }) ∷ []
 
 abbrev pub enhanced_lists : List (List Pair)
 enhanced_lists =
-    enhanced-list (record { configuration = Data12; id = 0xB6; «data» = 0x3D7 })
-    ∷ enhanced-list enhanced_message
-    ∷ enhanced-list (record { configuration = Data12; id = 0x21; «data» = 0x804 }) ∷ []
+    enhanced_list (record { configuration = Data12; id = 0xB6; «data» = 0x3D7 })
+    ∷ enhanced_list enhanced_message
+    ∷ enhanced_list (record { configuration = Data12; id = 0x21; «data» = 0x804 }) ∷ []
 
 -- of these lists, joined, the last two pairs of the first, all of the second, and the first pair of the third
 abbrev pub short_stretch : List Pair
@@ -142,20 +142,20 @@ enhanced_run = record { rules = both; from = lists [] (Break 0 0 ∷ carried 11 
 -- one channel has the list of a message in which a bit of the check is changed, the last one or the first one, and the other has
 -- nothing; the first is looked at after all its events
 abbrev pub short_spoiled_list : List Pair
-short_spoiled_list = spoiled 15 (short-list short_message)
+short_spoiled_list = spoiled 15 (short_list short_message)
 
 abbrev pub short_spoiled : Run
 short_spoiled = record { rules = both; from = lists (carried 10 0 0 short_spoiled_list) []; calls = steps 67 ++ look SideA }
 
 abbrev pub enhanced_spoiled : Run
-enhanced_spoiled = record { rules = both; from = lists [] (carried 11 0 0 (spoiled 0 (enhanced-list enhanced_message))); calls = steps 75 }
+enhanced_spoiled = record { rules = both; from = lists [] (carried 11 0 0 (spoiled 0 (enhanced_list enhanced_message))); calls = steps 75 }
 
 -- A has the first eight pairs of a list, then a break, and then the other eight
 abbrev pub short_broken : Run
 short_broken =
     record {
       rules = both;
-      from = lists (take 33 (carried 10 0 0 (short-list short_message)) ++ Break 33 10000 ∷ carried 10 34 10100 (drop 8 (short-list short_message))) [];
+      from = lists (take 33 (carried 10 0 0 (short_list short_message)) ++ Break 33 10000 ∷ carried 10 34 10100 (drop 8 (short_list short_message))) [];
       calls = steps 69;
     }
 
@@ -323,6 +323,6 @@ pub record LawHasInstances : Type 0 where
   pub figures_of_b : FiguresCome short_run 96 SideB 2 1
   pub serial_faults_not_counted : FiguresCome short_spoiled 68 SideA 16 0
   -- the order of steps: A's first where times are equal, and the end refused as often as it is asked for
-  pub order-by-time :
+  pub order_by_time :
       take 4 (answered short_run) ≡ Stepped (StepA 0 (pulse_only (fault kind.Break 0))) ∷ Stepped (StepB 0 (pulse_only Quiet)) ∷ Stepped (StepA 100 (pulse_only Quiet)) ∷ Stepped (StepB 616 (pulse_only Quiet)) ∷ []
   pub refused_at_the_end : drop 94 (answered short_run) ≡ Refused NoEvent ∷ Refused NoEvent ∷ []

@@ -100,12 +100,12 @@ is_encoding xs fit u h =
     let la : length ca ≡ number_at xs 7 = length-take-le n (drop 20 xs) (omega (arith, h.length_of_a, a.filled, rest)) ∙ h.length_of_a in
     let lb : length cb ≡ number_at xs 16 = length-drop n (drop 20 xs) ∙ omega (arith, h.length_of_a, a.filled, rest) in
     let body : drop 20 xs ≡ ca ++ cb = sym (take-append-drop n (drop 20 xs)) in
-    let head-b : drop 11 xs ≡ head_bytes u.b cb ++ drop 20 xs = head_there xs 11 more fit u.b cb h.settings_b.calibration h.settings_b.nibbles lb in
-    let head-a : drop 2 xs ≡ head_bytes u.a ca ++ drop 11 xs = head_there xs 2 enough fit u.a ca h.settings_a.calibration h.settings_a.nibbles la in
+    let head_b : drop 11 xs ≡ head_bytes u.b cb ++ drop 20 xs = head_there xs 11 more fit u.b cb h.settings_b.calibration h.settings_b.nibbles lb in
+    let head_a : drop 2 xs ≡ head_bytes u.a ca ++ drop 11 xs = head_there xs 2 enough fit u.a ca h.settings_a.calibration h.settings_a.nibbles la in
     let marks : xs ≡ 83 ∷ 85 ∷ drop 2 xs = drop_more xs 0 0 (omega arith) ∙ ap (λ z. get_or xs 0 0 ∷ z) (drop_more xs 1 0 (omega arith))
     ∙ ap (λ z. z ∷ get_or xs 1 0 ∷ drop 2 xs) a.mark.0 ∙ ap (λ z. 83 ∷ z ∷ drop 2 xs) a.mark.1 in
     record {
-      is = marks ∙ ap (λ z. 83 ∷ 85 ∷ z) (head-a ∙ ap (λ z. head_bytes u.a ca ++ z) (head-b ∙ ap (λ z. head_bytes u.b cb ++ z) body));
+      is = marks ∙ ap (λ z. 83 ∷ 85 ∷ z) (head_a ∙ ap (λ z. head_bytes u.a ca ++ z) (head_b ∙ ap (λ z. head_bytes u.b cb ++ z) body));
       capture_a_accepted = subst (λ (m : ℕ). checked Counter (take m (drop 20 xs)) ≡ None) (sym h.length_of_a) (capture_sound ChannelA (head_of ChannelA xs).calibration (head_of ChannelA xs).nibbles (capture_of ChannelA xs) a.sound_a);
       capture_b_accepted = subst (λ (m : ℕ). checked Log (drop m (drop 20 xs)) ≡ None) (sym h.length_of_a) (capture_sound ChannelB (head_of ChannelB xs).calibration (head_of ChannelB xs).nibbles (capture_of ChannelB xs) a.sound_b);
     }
@@ -116,7 +116,7 @@ accepted_is_an_encoding xs fit (Ok u) h = is_encoding xs fit u h
 accepted_is_an_encoding xs fit (Err e) h = tt
 
 -- an encoding is accepted
-module _ (sa : Settings) (ca : List ℕ) (sb : Settings) (cb : List ℕ) (fine-a : checked Counter ca ≡ None) (fine-b : checked Log cb ≡ None) where
+module _ (sa : Settings) (ca : List ℕ) (sb : Settings) (cb : List ℕ) (fine_a : checked Counter ca ≡ None) (fine_b : checked Log cb ≡ None) where
   settings_fine : (side : Side) (s : Settings) (k : ℕ) → k ≡ s.calibration → settings_refused side (refused k s.nibbles) ≡ None
   settings_fine side s k e =
       ap (λ z. settings_refused side (refused z s.nibbles)) e ∙ ap (settings_refused side) (settings_accepted s)
@@ -132,8 +132,8 @@ module _ (sa : Settings) (ca : List ℕ) (sb : Settings) (cb : List ℕ) (fine-a
 
   laid : laid_out (encoded sa ca sb cb) ≡ true
   laid =
-      let a = accepted_short Counter ca fine-a in
-      let b = accepted_short Log cb fine-b in
+      let a = accepted_short Counter ca fine_a in
+      let b = accepted_short Log cb fine_b in
       let l = length-append ca cb in
       let n = length_ca in
       let m = four_whole (length cb) in
@@ -148,8 +148,8 @@ module _ (sa : Settings) (ca : List ℕ) (sb : Settings) (cb : List ℕ) (fine-a
   encoding_accepted =
       ap (λ b. cond b (or_else (side_refused ChannelA (encoded sa ca sb cb)) (side_refused ChannelB (encoded sa ca sb cb))) (Some Layout)) laid
       ∙ ap (λ z. or_else z (side_refused ChannelB (encoded sa ca sb cb)))
-      (side_fine ChannelA sa _ _ ca (four_whole sa.calibration) first_is fine-a)
-      ∙ side_fine ChannelB sb _ _ cb (four_whole sb.calibration) second_is fine-b
+      (side_fine ChannelA sa _ _ ca (four_whole sa.calibration) first_is fine_a)
+      ∙ side_fine ChannelB sb _ _ cb (four_whole sb.calibration) second_is fine_b
 
 pub encodings_accepted : (xs : List ℕ) (r : Result UnitFile FileRefusal)
     → MatchResult r (λ u. FileRead xs u) (λ e. file_refused xs ≡ Some e) → EncodingsAccepted xs r
