@@ -1,6 +1,8 @@
-use Rattle.std.proofs.Common.{arith}
+use Rattle.std.proofs.Common.{rules, ◌≤◌, length, arith}
 use Rattle.listing.proofs.Writes.{wrote_then}
 use Rattle.listing.proofs.steps.put_b.Goals as goal
 
-pub returns : goal.returns
-returns c = record { wrote = wrote_then (omega arith) c.put_pulse-behind.ensures.wrote c.put_enhanced.ensures.wrote; short = omega arith }
+pub returns-clause-wrote : goal.returns-clause-wrote
+returns-clause-wrote c =
+    let inside : c.args.at ≤ length c.args.buffer.now = omega arith in
+    search (rules, wrote_then)
