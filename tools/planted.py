@@ -38,12 +38,10 @@ def above(crate, known):
 
 
 def copied():
-    """A copy of the repository, with what is proved already and without the edits of the gate."""
+    """A copy of the repository without the edits of the gate. Checks there begin with what checks here have kept."""
     copy = pathlib.Path(tempfile.mkdtemp(prefix="planted"))
     shutil.copy(TOP / "crates.txt", copy)
-    shutil.copytree(TOP / "crates", copy / "crates", ignore=shutil.ignore_patterns("must-fail"))
-    if (TOP / "target").is_dir():
-        shutil.copytree(TOP / "target", copy / "target", ignore=shutil.ignore_patterns("must-fail"))
+    shutil.copytree(TOP / "crates", copy / "crates", ignore=shutil.ignore_patterns("must-fail", "out"))
     return copy
 
 
@@ -60,7 +58,7 @@ def tried(copy, crate, edits):
         shutil.copy(edit, folder)
     _, said = run(copy, "must-fail", crate)
     shutil.rmtree(folder)
-    verdicts = dict(re.findall(rf"^rt: must-fail {crate}/(\w+): (.*)$", said, re.M))
+    verdicts = dict(re.findall(rf"^rt: must-fail {crate}/(\w+)\.edit: (.*)$", said, re.M))
     return {edit: verdicts.get(edit.stem, "BAD EDIT: rt did not come to it") for edit in edits}
 
 
@@ -73,12 +71,12 @@ def refused_above(copy, crate, edit, known):
     path = copy / "crates" / crate / field(edit, "file")
     kept = path.read_text()
     path.write_text(kept.replace(field(edit, "old"), field(edit, "new"), 1))
-    status, said = run(copy, "check", *above(crate, known))
+    status, said = run(copy, "ci", *above(crate, known))
     path.write_text(kept)
     if status == 0:
         return None
-    found = re.search(r"^rt: (\w+)(?:: its tests)? (?:is |are )?not proved|^rt: FAILED:? *(\S+)|^rt: (\w+):? .*(?:wrote|failed)", said, re.M)
-    return next((name for name in found.groups() if name), "above") if found else "above"
+    found = re.search(r"^rt: FAILED: (\w+)", said, re.M)
+    return found.group(1) if found else "above"
 
 
 def main():
