@@ -4,6 +4,6 @@
 #[cfg(test)]
 mod messages;
 #[cfg(test)]
-mod runs;
-#[cfg(test)]
 mod units;
+#[cfg(test)]
+mod whole_runs;
