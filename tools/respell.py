@@ -1,7 +1,7 @@
 #!/usr/bin/env python3
 """Spells the repository's own definitions and lemmas as today's library spells its own: words in snake case, types in camel case.
 
-tools/respell.py [TOP], once, behind /opt/rattle/port/port.py. A name is one that a file of specs/ or proofs/ declares with a dash in it. Names
+tools/respell.py [TOP], once, behind port.py of the kit. A name is one that a file of specs/ or proofs/ declares with a dash in it. Names
 that the check makes (goals, invariants, measures) are left, and so are those that a file brings in from the library. In proofs/ the
 names of the code, of which an older check made dashed ones, get the code's own spelling. Comments and strings are left.
 It prints the names that fall together.
