@@ -262,7 +262,7 @@ abbrev pub frame_reports : {M : Type 0} → ℕ → ℕ → List Sent → List (
 frame_reports u t [] = []
 frame_reports u t (f ∷ fs) = record { time = next_time t f; report = frame (frame_sent u f) } ∷ frame_reports (next_place f) (next_time t f) fs
 
--- all reports of `short-run`: A's break and 19 frames, and after the 18th frame, at its time, the message; B's fault and two frames
+-- all reports of `short_run`: A's break and 19 frames, and after the 18th frame, at its time, the message; B's fault and two frames
 abbrev pub reports_of_a : List (Timed ShortMessage)
 reports_of_a =
     record { time = 0; report = failed (record { kind = kind.Break; place = 0 }) }
