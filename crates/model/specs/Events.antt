@@ -1,5 +1,6 @@
 -- Events, and the law of every list of them that a source may have to give.
 use Rattle.std.specs.Prelude.{ℕ, ◌^◌, ◌<◌, ◌≤◌, List, [], ◌∷◌, Some, None, Option}
+use Rattle.std.specs.List.{AllByRecursion}
 use Rattle.model.specs.declared.event.Event.{Event}
 use Rattle.model.specs.declared.event.Event.TheVariants.{Edge, Break}
 
@@ -24,8 +25,7 @@ Precedes e f = (place_of e < place_of f) × (time_of e ≤ time_of f) × EdgesRi
 
 -- all of these may come after e
 abbrev pub PrecedesAll : Event → List Event → Type 0
-PrecedesAll e [] = Unit {0}
-PrecedesAll e (f ∷ fs) = Precedes e f × PrecedesAll e fs
+PrecedesAll e fs = AllByRecursion (Precedes e) fs
 
 -- a list is lawful if each event may come before all that follow it, and every time is below 2^40
 abbrev pub Lawful : List Event → Type 0

@@ -18,8 +18,7 @@ impl Event {
         ensures { result ≡ place_of self }
     {
         match self {
-            Event::Edge { place, .. } => place,
-            Event::Break { place, .. } => place,
+            Event::Edge { place, .. } | Event::Break { place, .. } => place,
         }
     }
 
@@ -27,8 +26,7 @@ impl Event {
         ensures { result ≡ time_of self }
     {
         match self {
-            Event::Edge { time, .. } => time,
-            Event::Break { time, .. } => time,
+            Event::Edge { time, .. } | Event::Break { time, .. } => time,
         }
     }
 }

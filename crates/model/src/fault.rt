@@ -2,31 +2,32 @@
 ghost use Rattle.std.specs.Prelude.{◌≡◌, ◌/◌};
 ghost use Rattle.model.specs.Faults.{number, layer, digit};
 
-// Where in the chain from the wire to the message a fault was seen.
+// Where in the chain from the wire to the message a fault was seen. The numbers of a layer's faults begin with its own.
 #[derive(Clone, Copy, PartialEq, Eq, Debug)]
 pub enum Layer {
-    Source,
-    Pulse,
-    Frame,
-    Serial,
+    Source = 2,
+    Pulse = 3,
+    Frame = 4,
+    Serial = 5,
 }
 
+// What is wrong, with the number by which it is reported.
 #[derive(Clone, Copy, PartialEq, Eq, Debug)]
 pub enum FaultKind {
     // edges were lost, or an edge came that was not later than the last
-    Break,
+    Break = 201,
     // no interval can be taken: not later than the last edge, or too long after it
-    Interval,
+    Interval = 202,
     // a calibration pulse was due and something else came
-    Calibration,
+    Calibration = 301,
     // a pulse shorter than any nibble
-    ShortNibble,
+    ShortNibble = 302,
     // a pulse longer than any nibble
-    LongNibble,
+    LongNibble = 303,
     // the check nibble does not fit the data nibbles
-    FrameCheck,
+    FrameCheck = 401,
     // the check of a serial message does not fit it
-    SerialCheck,
+    SerialCheck = 501,
 }
 
 // A fault at the place of the event that showed it.
@@ -41,12 +42,7 @@ impl Layer {
     pub fn digit(self) -> u16
         ensures { result ≡ digit self }
     {
-        match self {
-            Layer::Source => 2,
-            Layer::Pulse => 3,
-            Layer::Frame => 4,
-            Layer::Serial => 5,
-        }
+        self as u16
     }
 }
 
@@ -54,15 +50,7 @@ impl FaultKind {
     pub fn number(self) -> u16
         ensures { result ≡ number self }
     {
-        match self {
-            FaultKind::Break => 201,
-            FaultKind::Interval => 202,
-            FaultKind::Calibration => 301,
-            FaultKind::ShortNibble => 302,
-            FaultKind::LongNibble => 303,
-            FaultKind::FrameCheck => 401,
-            FaultKind::SerialCheck => 501,
-        }
+        self as u16
     }
 
     // The layer whose digit begins the fault's number.
@@ -71,11 +59,8 @@ impl FaultKind {
         ensures by_the_first_digit { digit result ≡ number self / 100 }
     {
         match self {
-            FaultKind::Break => Layer::Source,
-            FaultKind::Interval => Layer::Source,
-            FaultKind::Calibration => Layer::Pulse,
-            FaultKind::ShortNibble => Layer::Pulse,
-            FaultKind::LongNibble => Layer::Pulse,
+            FaultKind::Break | FaultKind::Interval => Layer::Source,
+            FaultKind::Calibration | FaultKind::ShortNibble | FaultKind::LongNibble => Layer::Pulse,
             FaultKind::FrameCheck => Layer::Frame,
             FaultKind::SerialCheck => Layer::Serial,
         }
