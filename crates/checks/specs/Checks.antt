@@ -1,6 +1,6 @@
 -- The checks. A value of w bits stands for a polynomial over the field of two elements: its bit k is the factor of x^k.
 -- A check of that width goes by a polynomial of degree w; `low` is that polynomial without x^w, which is what x^w counts as.
-use Rattle.std.specs.Prelude.{ℕ, zero, suc, ◌-◌, ◌*◌, ◌/◌, ◌%◌, ◌^◌, List, [], ◌∷◌, bit_xor}
+use Rattle.std.specs.Prelude.{ℕ, zero, suc, ◌-◌, ◌*◌, ◌/◌, ◌%◌, ◌^◌, List, fold, bit_xor}
 
 -- v times x
 abbrev pub shifted : ℕ → ℕ → ℕ → ℕ
@@ -17,8 +17,7 @@ entry w low v = raised w low w v
 
 -- for each group in order the value turns into its table entry XOR the group
 abbrev pub through : ℕ → ℕ → ℕ → List ℕ → ℕ
-through w low value [] = value
-through w low value (group ∷ groups) = through w low (bit_xor (entry w low value) group) groups
+through w low value groups = fold (λ v group. bit_xor (entry w low v) group) value groups
 
 -- after the last group the value turns into its table entry once more
 abbrev pub check : ℕ → ℕ → ℕ → List ℕ → ℕ

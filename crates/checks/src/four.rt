@@ -3,35 +3,10 @@ ghost use Rattle.std.specs.Prelude.{◌≡◌, ◌%◌, ◌<◌, map};
 ghost use Rattle.checks.specs.Checks.{check4};
 ghost use Rattle.checks.specs.Widths.{table, Linear, DifferByTheLinearPart};
 ghost use Rattle.checks.specs.Found.{OneChangedNibbleFound, MovedNeighboursFound};
-ghost use Rattle.std.proofs.Common.{lit<};
 
-use crate::running::{Checking, run};
+use crate::running::check;
 
 const TABLE: [u8; 16] = [0, 13, 7, 10, 14, 3, 9, 4, 1, 12, 6, 11, 15, 2, 8, 5];
-
-struct Four;
-
-impl Checking for Four {
-    ghost width = { 4 };
-
-    ghost low = { 0b1101 };
-
-    ghost initial = { 5 };
-
-    ghost fits = { record { low_fits = lit< tt; start_fits = lit< tt } };
-
-    fn start() -> u8 {
-        5
-    }
-
-    fn look_up(value: u8) -> u8 {
-        table4()[value as usize]
-    }
-
-    fn cut(group: u8) -> u8 {
-        group % 16
-    }
-}
 
 // The whole table: each value times x^4.
 pub fn table4() -> &'static [u8; 16]
@@ -41,6 +16,7 @@ pub fn table4() -> &'static [u8; 16]
 }
 
 // The check nibble of data nibbles; of a number that is no nibble the low four bits count.
+#[tactic(auto, unfolding(crate::specs::Checks::check4))]
 pub fn check4(nibbles: &[u8]) -> u8
     ensures value { result ≡ check4 (map (λ v. v % 16) nibbles.now) }
     ensures small { result < 16 }
@@ -49,5 +25,5 @@ pub fn check4(nibbles: &[u8]) -> u8
     ensures one_changed_nibble_found { OneChangedNibbleFound }
     ensures moved_neighbours_found { MovedNeighboursFound }
 {
-    run::<Four>(nibbles)
+    check::<4, 0b1101>(&TABLE, 5, nibbles)
 }
