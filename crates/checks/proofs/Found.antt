@@ -1,18 +1,14 @@
 -- The four-bit check finds a change of one nibble, and of two neighbours by at most one each.
 -- Its strength lies in the table: the entries of two values differ, and those of values that differ by a slight change differ by more than one.
-use Rattle.std.proofs.Common.{◌≡◌, ℕ, ◌+◌, ◌%◌, ◌<◌, Bool, true, false, ◌&&◌, ◌||◌, eqb, leb, List, [], ◌∷◌, ◌++◌, map, length, sym, refl, ap, ◌∙◌, subst, ap₂, inl, inr, arith, lit<}
-use lib.Bits.{bit_xor, xor_comm, xor_assoc, xor_self, xor_zero_l, xor_zero_r}
+use Rattle.std.proofs.Common.{◌≡◌, ℕ, ◌+◌, ◌<◌, Bool, true, false, ◌&&◌, ◌||◌, eqb, leb, List, [], ◌∷◌, ◌++◌, length, sym, refl, ap, ◌∙◌, subst, ap₂, inl, inr, arith, lit<}
+use lib.Bits.{bit_xor, xor_comm, xor_assoc, xor_self, xor_zero_r}
 use Rattle.std.proofs.lemmas.Nat.{xor_lt}
 use Rattle.std.proofs.lemmas.List.{same_from_push}
 use Rattle.std.proofs.lemmas.Bool.{le-leb, eqb-true, eq-eqb, and_from, true≢false}
 use Rattle.checks.specs.Checks.{entry, check, check4}
 use Rattle.checks.specs.Found.{Nibbles, Near, OneChanged, MovedFirst, MovedNeighbours, OneChangedNibbleFound, MovedNeighboursFound}
 use Rattle.checks.proofs.Upto.{upto, upto_at}
-use Rattle.checks.proofs.Width.{entry_below, check_below, cut_leaves}
-
--- a list of nibbles is what is left of it when each is cut to four bits
-pub nibbles_stay : (vs : List ℕ) → Nibbles vs → map (λ v. v % 16) vs ≡ vs
-nibbles_stay vs small = cut_leaves 16 vs small
+use Rattle.checks.proofs.Width.{crossed, entry_below, check_below}
 
 pub check4_below : (vs : List ℕ) → Nibbles vs → check4 vs < 16
 unfolding check4
@@ -65,19 +61,16 @@ unfolding entry
 wide_test = refl
 
 xor_undo : (a b : ℕ) → bit_xor (bit_xor a b) b ≡ a
-xor_undo a b = xor_assoc a b b ∙ ap (bit_xor a) (xor_self b) ∙ xor_zero_r a
+xor_undo a b = simp (xor_assoc, xor_self, xor_zero_r)
 
 xor_cancel : (a b c : ℕ) → bit_xor a c ≡ bit_xor b c → a ≡ b
-xor_cancel a b c e = sym (xor_undo a c) ∙ ap (λ (x : ℕ). bit_xor x c) e ∙ xor_undo b c
+xor_cancel a b c e = cc (xor_undo a c, xor_undo b c)
 
 xor_cancel_left : (a b c : ℕ) → bit_xor c a ≡ bit_xor c b → a ≡ b
-xor_cancel_left a b c e = xor_cancel a b c (xor_comm a c ∙ e ∙ xor_comm c b)
+xor_cancel_left a b c e = xor_cancel a b c (cc (xor_comm a c, xor_comm b c))
 
 xor_moved : (y z b d : ℕ) → bit_xor y b ≡ bit_xor z d → bit_xor y z ≡ bit_xor b d
-xor_moved y z b d e =
-    ap (λ (x : ℕ). bit_xor x z) (sym (xor_undo y b) ∙ ap (λ (x : ℕ). bit_xor x b) e ∙ xor_assoc z d b)
-    ∙ xor_comm (bit_xor z (bit_xor d b)) z ∙ sym (xor_assoc z z (bit_xor d b)) ∙ ap (λ (x : ℕ). bit_xor x (bit_xor d b)) (xor_self z)
-    ∙ xor_zero_l (bit_xor d b) ∙ xor_comm d b
+xor_moved y z b d e = xor_cancel (bit_xor y z) (bit_xor b d) (bit_xor b d) (cc (crossed y z b d, xor_self (bit_xor z d), xor_self (bit_xor b d)))
 
 at_below : (x : ℕ) → x < 16 → at x < 16
 at_below x h = entry_below 4 0b1101 x (lit< tt) h

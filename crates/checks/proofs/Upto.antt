@@ -1,13 +1,10 @@
 -- A test at each number below a bound: what it says of every such number, once it is computed.
-use Rattle.std.proofs.Common.{◌≡◌, ℕ, zero, suc, ◌<◌, Bool, true, ◌&&◌, sym, subst, inl, inr, arith}
-use Rattle.std.proofs.lemmas.Bool.{and_parts, cases_eq}
+use Rattle.std.proofs.Common.{◌≡◌, ℕ, zero, suc, ◌<◌, Bool, true, ◌&&◌, refl}
+use Rattle.std.proofs.lemmas.Bool.Decides.{Decides-below_and}
 
 abbrev pub upto : ℕ → (ℕ → Bool) → Bool
 upto zero f = true
 upto (suc n) f = f n && upto n f
 
 pub upto_at : (n : ℕ) (f : ℕ → Bool) → upto n f ≡ true → (k : ℕ) → k < n → f k ≡ true
-upto_at zero f t k h = absurd (omega arith)
-upto_at (suc n) f t k h =
-    let p = and_parts (f n) (upto n f) t in
-    elim (cases_eq k n) [ inl e ↦ subst (λ (x : ℕ). f x ≡ true) (sym e) p.0 | inr ne ↦ upto_at n f p.1 k (omega arith) ]
+upto_at n f = (Decides-below_and f (λ k. f k ≡ true) (λ m. upto m f) (λ k. (λ t. t, λ t. t)) refl (λ m. refl) n).0

@@ -1,43 +1,42 @@
 -- What both checks share, over the width.
-use Rattle.std.proofs.Common.{◌≡◌, ℕ, zero, suc, ◌-◌, ◌*◌, ◌/◌, ◌%◌, ◌^◌, ◌<◌, ◌⊎◌, List, [], ◌∷◌, map, length, sym, refl, ap, ◌∙◌, ap₂, inl, inr, ⊎_elim, add-zero, mod-eq_of_lt, mul-zero, mul-one, arith}
-use lib.Bits.{bit_xor, xor_block, xor_comm, xor_assoc, xor_self, xor_zero_r}
+use Rattle.std.proofs.Common.{◌≡◌, ℕ, zero, suc, ◌-◌, ◌*◌, ◌/◌, ◌%◌, ◌^◌, ◌<◌, ◌⊎◌, List, [], ◌∷◌, map, length, sym, refl, add-zero, mod-eq_of_lt, arith}
+use lib.Bits.{bit_xor, xor_block, xor_comm, xor_assoc, xor_self}
 use Rattle.std.specs.List.{AllByRecursion}
 use Rattle.std.proofs.lemmas.Nat.{xor_lt, xor_shr, xor_mod, mod_below, pow_pos}
-use Rattle.std.proofs.lemmas.Bool.{cases_lt}
+use Rattle.std.proofs.lemmas.Grind.{common_steps}
 use Rattle.checks.specs.Checks.{shifted, raised, entry, through, check}
 use Rattle.checks.specs.Widths.{xors, DifferByTheLinearPart}
 
 -- the XOR of two XORs, with the inner two exchanged
-crossed : (a b c d : ℕ) → bit_xor (bit_xor a b) (bit_xor c d) ≡ bit_xor (bit_xor a c) (bit_xor b d)
-crossed a b c d =
-    xor_assoc a b (bit_xor c d)
-    ∙ ap (bit_xor a) (sym (xor_assoc b c d) ∙ ap (λ (t : ℕ). bit_xor t d) (xor_comm b c) ∙ xor_assoc c b d)
-    ∙ sym (xor_assoc a c (bit_xor b d))
+pub crossed : (a b c d : ℕ) → bit_xor (bit_xor a b) (bit_xor c d) ≡ bit_xor (bit_xor a c) (bit_xor b d)
+crossed a b c d = grind (arith, xor_assoc, xor_comm)
 
 doubled : (a b : ℕ) → bit_xor a b * 2 ≡ bit_xor (a * 2) (b * 2)
 doubled a b = let e = xor_block 1 a b 0 0 (pow_pos 1) (pow_pos 1) in sym (simp add-zero at e)
 
 bit : (n : ℕ) → (n % 2 ≡ 0) ⊎ (n % 2 ≡ 1)
-bit n = elim (cases_lt (n % 2) 1) [ inl h ↦ inl (omega arith) | inr h ↦ inr (omega arith) ]
+bit n = grind arith
 
 times_bit : (g x y : ℕ) → (x ≡ 0) ⊎ (x ≡ 1) → (y ≡ 0) ⊎ (y ≡ 1) → g * bit_xor x y ≡ bit_xor (g * x) (g * y)
-times_bit g x y (inl p) (inl q) = rw (p, q, mul-zero g)
-times_bit g x y (inl p) (inr q) = rw (p, q, mul-zero g, mul-one g)
-times_bit g x y (inr p) (inl q) = rw (p, q, mul-zero g, mul-one g, xor_zero_r g)
-times_bit g x y (inr p) (inr q) = rw (p, q, mul-zero g, mul-one g, xor_self g)
+times_bit g x y p q = grind (arith, common_steps)
 
 shifted_linear : (w low a b : ℕ) → shifted w low (bit_xor a b) ≡ bit_xor (shifted w low a) (shifted w low b)
 shifted_linear w low a b =
     let k : ℕ = w - 1 in
-    let up : bit_xor a b * 2 % 2 ^ w ≡ bit_xor (a * 2 % 2 ^ w) (b * 2 % 2 ^ w) = ap (λ (t : ℕ). t % 2 ^ w) (doubled a b) ∙ xor_mod (a * 2) (b * 2) w in
-    let top : bit_xor a b / 2 ^ k % 2 ≡ bit_xor (a / 2 ^ k % 2) (b / 2 ^ k % 2) = ap (λ (t : ℕ). t % 2) (xor_shr a b k) ∙ xor_mod (a / 2 ^ k) (b / 2 ^ k) 1 in
-    ap₂ (λ (s t : ℕ). bit_xor s (low * t)) up top
-    ∙ ap (bit_xor (bit_xor (a * 2 % 2 ^ w) (b * 2 % 2 ^ w))) (times_bit low (a / 2 ^ k % 2) (b / 2 ^ k % 2) (bit (a / 2 ^ k)) (bit (b / 2 ^ k)))
-    ∙ crossed (a * 2 % 2 ^ w) (b * 2 % 2 ^ w) (low * (a / 2 ^ k % 2)) (low * (b / 2 ^ k % 2))
+    let x : ℕ = a / 2 ^ k % 2 in
+    let y : ℕ = b / 2 ^ k % 2 in
+    cc (
+      doubled a b,
+      xor_mod (a * 2) (b * 2) w,
+      xor_shr a b k,
+      xor_mod (a / 2 ^ k) (b / 2 ^ k) 1,
+      times_bit low x y (bit (a / 2 ^ k)) (bit (b / 2 ^ k)),
+      crossed (a * 2 % 2 ^ w) (b * 2 % 2 ^ w) (low * x) (low * y),
+    )
 
 raised_linear : (w low n a b : ℕ) → raised w low n (bit_xor a b) ≡ bit_xor (raised w low n a) (raised w low n b)
 raised_linear w low zero a b = refl
-raised_linear w low (suc n) a b = ap (raised w low n) (shifted_linear w low a b) ∙ raised_linear w low n (shifted w low a) (shifted w low b)
+raised_linear w low (suc n) a b = rw (shifted_linear w low a b) (raised_linear w low n (shifted w low a) (shifted w low b))
 
 -- looking up is linear over XOR
 pub entry_linear : (w low a b : ℕ) → entry w low (bit_xor a b) ≡ bit_xor (entry w low a) (entry w low b)
@@ -49,19 +48,17 @@ through_linear w low s t [] [] e = refl
 through_linear w low s t [] (y ∷ ys) e = absurd (omega arith)
 through_linear w low s t (x ∷ xs) [] e = absurd (omega arith)
 through_linear w low s t (x ∷ xs) (y ∷ ys) e =
-    through_linear w low (bit_xor (entry w low s) x) (bit_xor (entry w low t) y) xs ys (omega arith)
-    ∙ ap (λ (v : ℕ). through w low v (xors xs ys))
-    (crossed (entry w low s) x (entry w low t) y ∙ ap (λ (v : ℕ). bit_xor v (bit_xor x y)) (sym (entry_linear w low s t)))
+    let rest = through_linear w low (bit_xor (entry w low s) x) (bit_xor (entry w low t) y) xs ys (omega arith) in
+    cc (rest, entry_linear w low s t, crossed (entry w low s) (entry w low t) x y)
 
 pub differ_by_the_linear_part : DifferByTheLinearPart
 differ_by_the_linear_part w low start xs ys e =
-    sym (entry_linear w low (through w low start xs) (through w low start ys))
-    ∙ ap (entry w low) (through_linear w low start start xs ys e ∙ ap (λ (v : ℕ). through w low v (xors xs ys)) (xor_self start))
+    cc (entry_linear w low (through w low start xs) (through w low start ys), through_linear w low start start xs ys e, xor_self start)
 
 shifted_below : (w low v : ℕ) → low < 2 ^ w → shifted w low v < 2 ^ w
 shifted_below w low v h =
-    xor_lt w (v * 2 % 2 ^ w) (low * (v / 2 ^ (w - 1) % 2)) (mod_below (v * 2) (2 ^ w) (pow_pos w))
-    (⊎_elim (λ (e : v / 2 ^ (w - 1) % 2 ≡ 0). rw (e, mul-zero low) (pow_pos w)) (λ (e : v / 2 ^ (w - 1) % 2 ≡ 1). rw (e, mul-one low) h) (bit (v / 2 ^ (w - 1))))
+    let times : (b : ℕ) → (b ≡ 0) ⊎ (b ≡ 1) → low * b < 2 ^ w = λ b e. grind (arith, e, pow_pos w) in
+    xor_lt w (v * 2 % 2 ^ w) (low * (v / 2 ^ (w - 1) % 2)) (mod_below (v * 2) (2 ^ w) (pow_pos w)) (times (v / 2 ^ (w - 1) % 2) (bit (v / 2 ^ (w - 1))))
 
 raised_below : (w low n v : ℕ) → low < 2 ^ w → v < 2 ^ w → raised w low n v < 2 ^ w
 raised_below w low zero v h k = k
@@ -82,9 +79,4 @@ check_below w low start vs h k all = entry_below w low (through w low start vs) 
 -- cutting groups of the width to the width leaves them
 pub cut_leaves : (n : ℕ) (vs : List ℕ) → AllByRecursion (λ v. v < n) vs → map (λ v. v % n) vs ≡ vs
 cut_leaves n [] all = refl
-cut_leaves n (v ∷ vs) all = ap₂ (λ (x : ℕ) (xs : List ℕ). x ∷ xs) (mod-eq_of_lt all.0) (cut_leaves n vs all.1)
-
--- and groups cut to the width are of the width
-pub cut_below : (n : ℕ) (vs : List ℕ) → 0 < n → AllByRecursion (λ v. v < n) (map (λ v. v % n) vs)
-cut_below n [] h = tt
-cut_below n (v ∷ vs) h = (mod_below v n h, cut_below n vs h)
+cut_leaves n (v ∷ vs) all = cc (mod-eq_of_lt all.0, cut_leaves n vs all.1)

@@ -3,9 +3,8 @@ use Rattle.std.specs.Prelude.{◌≡◌, ℕ, ◌^◌, ◌<◌, List, [], ◌∷
 use Rattle.std.specs.List.{range_with_len}
 use Rattle.checks.specs.Checks.{raised, check}
 
--- the numbers that make a check are of its width, which is less than that of a byte
+-- the numbers that make a check are of its width
 pub record Fits (w low start : ℕ) : Type 0 where
-  pub narrow : w < 8
   pub low_fits : low < 2 ^ w
   pub start_fits : start < 2 ^ w
 

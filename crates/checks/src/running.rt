@@ -14,6 +14,7 @@ fn cut<const WIDTH: u32>(group: u8) -> u8
 
 // The check of WIDTH bits by the polynomial x^WIDTH + LOW, from a start value on, looked up in its whole table.
 pub(crate) fn check<const WIDTH: u32, const LOW: u8>(entries: &[u8], start: u8, groups: &[u8]) -> u8
+    requires narrow { WIDTH < 8 }
     requires whole { entries.now ≡ table WIDTH LOW }
     requires long { length entries.now ≡ 2 ^ WIDTH }
     requires fits { Fits WIDTH LOW start }
