@@ -1,10 +1,10 @@
 -- The four-bit check finds a change of one nibble, and of two neighbours by at most one each.
 -- Its strength lies in the table: the entries of two values differ, and those of values that differ by a slight change differ by more than one.
-use Rattle.std.proofs.Common.{◌≡◌, ℕ, ◌+◌, ◌<◌, Bool, true, false, ◌&&◌, ◌||◌, eqb, leb, List, [], ◌∷◌, ◌++◌, length, sym, refl, ap, ◌∙◌, subst, ap₂, inl, inr, arith, lit<}
+use Rattle.std.proofs.Common.{◌≡◌, ℕ, ◌+◌, ◌<◌, Bool, cond, true, ◌&&◌, ◌||◌, eqb, leb, List, [], ◌∷◌, ◌++◌, length, refl, inl, inr, arith, lit<}
 use lib.Bits.{bit_xor, xor_comm, xor_assoc, xor_self, xor_zero_r}
 use Rattle.std.proofs.lemmas.Nat.{xor_lt}
 use Rattle.std.proofs.lemmas.List.{same_from_push}
-use Rattle.std.proofs.lemmas.Bool.{le-leb, eqb-true, eq-eqb, and_from, true≢false}
+use Rattle.std.proofs.lemmas.Bool.Decides.{nat_tests}
 use Rattle.checks.specs.Checks.{entry, check, check4}
 use Rattle.checks.specs.Found.{Nibbles, Near, OneChanged, MovedFirst, MovedNeighbours, OneChangedNibbleFound, MovedNeighboursFound}
 use Rattle.checks.proofs.Upto.{upto, upto_at}
@@ -18,18 +18,10 @@ at_pair : (f : ℕ → ℕ → Bool) → upto 16 (λ x. upto 16 (f x)) ≡ true 
 at_pair f t x y h g = upto_at 16 (f x) (upto_at 16 (λ x. upto 16 (f x)) t x h) y g
 
 abbrev implies : Bool → Bool → Bool
-implies true b = b
-implies false b = true
-
-use_implies : (a b : Bool) → implies a b ≡ true → a ≡ true → b ≡ true
-use_implies true b t h = t
-use_implies false b t h = absurd (true≢false (sym h))
+implies a b = cond a b true
 
 abbrev near : ℕ → ℕ → Bool
 near a b = leb a (b + 1) && leb b (a + 1)
-
-as_near : (a b : ℕ) → Near a b → near a b ≡ true
-as_near a b h = and_from (leb a (b + 1)) (leb b (a + 1)) (le-leb a (b + 1) h.0) (le-leb b (a + 1) h.1)
 
 -- the XOR of two nibbles that differ by at most one
 abbrev slight : ℕ → Bool
@@ -79,16 +71,14 @@ below : (x v : ℕ) → x < 16 → v < 16 → bit_xor (at x) v < 16
 below x v h g = xor_lt 4 (at x) v (at_below x h) g
 
 once : (x y : ℕ) → x < 16 → y < 16 → at x ≡ at y → x ≡ y
-once x y h g e = eqb-true x y (use_implies _ _ (at_pair once_at once_test x y h g) (eq-eqb (at x) (at y) e))
+once x y h g e = let t = at_pair once_at once_test x y h g in grind (arith, nat_tests, t)
 
 near_slight : (a b : ℕ) → a < 16 → b < 16 → Near a b → slight (bit_xor a b) ≡ true
-near_slight a b h g r = use_implies _ _ (at_pair slight_at slight_test a b h g) (as_near a b r)
+near_slight a b h g r = let t = at_pair slight_at slight_test a b h g in grind (arith, nat_tests, t)
 
 wide : (s a b : ℕ) → s < 16 → a < 16 → b < 16 → Near a b → slight (bit_xor (at (bit_xor s a)) (at (bit_xor s b))) ≡ true → a ≡ b
 wide s a b h g i r t =
-    eqb-true a b
-    (use_implies _ _ (at_pair (wide_at s) (upto_at 16 (λ s. upto 16 (λ a. upto 16 (wide_at s a))) wide_test s h) a b g i)
-    (and_from (near a b) (slight (bit_xor (at (bit_xor s a)) (at (bit_xor s b)))) (as_near a b r) t))
+    let u = at_pair (wide_at s) (upto_at 16 (λ s. upto 16 (λ a. upto 16 (wide_at s a))) wide_test s h) a b g i in grind (arith, nat_tests, u)
 
 -- the check from a value on
 abbrev from : ℕ → List ℕ → ℕ
@@ -107,15 +97,8 @@ from_once (v ∷ vs) x y s h g e =
 -- the first nibble alone may be another, and the rest with the check is the same: then it is no other
 first_found : (x v w : ℕ) (vs ws : List ℕ) → x < 16 → v < 16 → w < 16 → Nibbles vs → closed (bit_xor (at x) v) vs ≡ closed (bit_xor (at x) w) ws → (v ≡ w) × (vs ≡ ws)
 first_found x v w vs ws h hv hw s e =
-    let p = same_from_push vs ws (from (bit_xor (at x) v) vs) (from (bit_xor (at x) w) ws) e in (
-      xor_cancel_left v w (at x)
-          (from_once vs (bit_xor (at x) v) (bit_xor (at x) w) s (below x v h hv) (below x w h hw)
-          (p.1 ∙ ap (from (bit_xor (at x) w)) (sym p.0))),
-      p.0,
-    )
-
-abbrev cons : ℕ → List ℕ → List ℕ
-cons x xs = x ∷ xs
+    let p = same_from_push vs ws (from (bit_xor (at x) v) vs) (from (bit_xor (at x) w) ws) e in
+    (xor_cancel_left v w (at x) (from_once vs (bit_xor (at x) v) (bit_xor (at x) w) s (below x v h hv) (below x w h hw) (cc)), p.0)
 
 one_found : (vs ws : List ℕ) (x : ℕ) → x < 16 → Nibbles vs → Nibbles ws → length vs ≡ length ws → OneChanged (closed x vs) (closed x ws) → ws ≡ vs
 one_found [] [] x h s d l e = refl
@@ -123,10 +106,8 @@ one_found [] (w ∷ ws) x h s d l e = absurd (omega arith)
 one_found (v ∷ vs) [] x h s d l e = absurd (omega arith)
 one_found (v ∷ vs) (w ∷ ws) x h s d l e =
     elim e [
-      | inl p ↦
-          let t = subst (λ (i : ℕ). OneChanged (closed (bit_xor (at x) v) vs) (closed (bit_xor (at x) i) ws)) (sym p.0) p.1 in
-          ap₂ cons (sym p.0) (one_found vs ws (bit_xor (at x) v) (below x v h s.0) s.1 d.1 (omega arith) t)
-      | inr p ↦ let r = first_found x v w vs ws h s.0 d.0 s.1 p in ap₂ cons (sym r.0) (sym r.1)
+      | inl p ↦ let t = rw (← p.0) at p.1 in cc (one_found vs ws (bit_xor (at x) v) (below x v h s.0) s.1 d.1 (omega arith) t)
+      | inr p ↦ let r = first_found x v w vs ws h s.0 d.0 s.1 p in cc
     ]
 
 -- the first of two neighbours moved, and the second of them: a data nibble, or the check nibble
@@ -146,11 +127,10 @@ next_found x v w (a ∷ vs) (b ∷ ws) h hv hw s d l r e =
     let zb : z < 16 = below x w h hw in
     let p = same_from_push vs ws (from (bit_xor (at y) a) vs) (from (bit_xor (at z) b) ws) e.1 in
     let q : bit_xor (at y) a ≡ bit_xor (at z) b =
-    from_once vs (bit_xor (at y) a) (bit_xor (at z) b) s.1 (below y a yb s.0) (below z b zb d.0) (p.1 ∙ ap (from (bit_xor (at z) b)) (sym p.0)) in
-    let vw : v ≡ w = wide (at x) v w (at_below x h) hv hw r
-    (subst (λ (i : ℕ). slight i ≡ true) (sym (xor_moved (at y) (at z) a b q)) (near_slight a b s.0 d.0 e.0)) in
-    let ab : a ≡ b = xor_cancel_left a b (at z) (ap (λ (i : ℕ). bit_xor (at (bit_xor (at x) i)) a) (sym vw) ∙ q) in
-    (vw, ap₂ cons ab p.0)
+    from_once vs (bit_xor (at y) a) (bit_xor (at z) b) s.1 (below y a yb s.0) (below z b zb d.0) (cc) in
+    let vw : v ≡ w = wide (at x) v w (at_below x h) hv hw r (rw (xor_moved (at y) (at z) a b q) (near_slight a b s.0 d.0 e.0)) in
+    let ab : a ≡ b = xor_cancel_left a b (at z) (cc) in
+    (vw, cc)
 
 moved_found : (vs ws : List ℕ) (x : ℕ) → x < 16 → Nibbles vs → Nibbles ws → length vs ≡ length ws → MovedNeighbours (closed x vs) (closed x ws) → ws ≡ vs
 moved_found [] [] x h s d l e = refl
@@ -158,10 +138,8 @@ moved_found [] (w ∷ ws) x h s d l e = absurd (omega arith)
 moved_found (v ∷ vs) [] x h s d l e = absurd (omega arith)
 moved_found (v ∷ vs) (w ∷ ws) x h s d l e =
     elim e [
-      | inl p ↦
-          let t = subst (λ (i : ℕ). MovedNeighbours (closed (bit_xor (at x) v) vs) (closed (bit_xor (at x) i) ws)) (sym p.0) p.1 in
-          ap₂ cons (sym p.0) (moved_found vs ws (bit_xor (at x) v) (below x v h s.0) s.1 d.1 (omega arith) t)
-      | inr p ↦ let r = next_found x v w vs ws h s.0 d.0 s.1 d.1 (omega arith) p.0 p.1 in ap₂ cons (sym r.0) (sym r.1)
+      | inl p ↦ let t = rw (← p.0) at p.1 in cc (moved_found vs ws (bit_xor (at x) v) (below x v h s.0) s.1 d.1 (omega arith) t)
+      | inr p ↦ let r = next_found x v w vs ws h s.0 d.0 s.1 d.1 (omega arith) p.0 p.1 in cc
     ]
 
 pub one_changed_nibble_found : OneChangedNibbleFound
