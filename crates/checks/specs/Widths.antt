@@ -1,6 +1,6 @@
 -- What all checks of this kind share, over the width and the polynomial.
-use Rattle.std.specs.Prelude.{◌≡◌, ℕ, ◌^◌, ◌<◌, List, [], ◌∷◌, map, length, bit_xor, slice_index}
-use Rattle.std.specs.List.{range_with_len}
+use Rattle.std.specs.Prelude.{◌≡◌, ℕ, ◌^◌, ◌<◌, List, map, length, bit_xor, slice_index}
+use Rattle.std.specs.List.{range_with_len, zip}
 use Rattle.checks.specs.Checks.{raised, check}
 
 -- the numbers that make a check are of its width
@@ -18,9 +18,7 @@ Linear w entries = (a b : ℕ) → a < 2 ^ w → b < 2 ^ w → slice_index entri
 
 -- the XOR of two lists, group by group
 abbrev pub xors : List ℕ → List ℕ → List ℕ
-xors [] ys = []
-xors (x ∷ xs) [] = []
-xors (x ∷ xs) (y ∷ ys) = bit_xor x y ∷ xors xs ys
+xors xs ys = map (λ p. bit_xor p.0 p.1) (zip xs ys)
 
 -- the checks of two lists of one length differ by what the XOR of the lists gives from 0 on, the linear part
 abbrev pub DifferByTheLinearPart : Type 0
