@@ -5,7 +5,7 @@ ghost use Rattle.model.specs.Events.{Lawful, first, rest};
 
 use crate::event::Event;
 
-// A source is known by the events that it has yet to give.
+// A source is known by the events that it has yet to give. It is no Iterator: a unit looks at both channels' next events before it takes one.
 pub trait EdgeSource {
     // the events still to come
     ghost events: { Self → List Event };
