@@ -2,4 +2,4 @@ pub mod Packed
 pub mod Windows
 pub mod Kept
 pub mod Steps
-pub mod Stored
+pub mod Full

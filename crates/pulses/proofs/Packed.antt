@@ -1,8 +1,5 @@
--- Six nibbles, in a list and in one number.
-use Rattle.std.proofs.Common.{◌≡◌, ℕ, zero, suc, ◌+◌, ◌*◌, ◌/◌, ◌%◌, ◌^◌, ◌<◌, ◌≤◌, List, [], ◌∷◌, ◌++◌, map, length, get_or, take, drop, replicate, sym, refl, ap, ◌∙◌, arith, lit<, length-append, length-take}
-use lib.ListN.{length-replicate}
-use Rattle.checks.specs.Found.{Nibbles}
-use Rattle.pulses.specs.Frames.{packed, unpacked, six}
+-- Lists of nibbles.
+use Rattle.std.proofs.Common.{◌≡◌, ℕ, zero, suc, ◌%◌, ◌<◌, List, [], ◌∷◌, map, length, get_or, take, drop, refl, arith, lit<}
 
 abbrev pub Small : List ℕ → Type 0
 Small vs = (i : ℕ) → get_or vs i 0 < 16
@@ -45,41 +42,3 @@ low_bits (x ∷ xs) h =
     let first : x % 16 ≡ x = omega (arith, h 0) in
     let rest : map (λ v. v % 16) xs ≡ xs = low_bits xs (λ i. h (suc i)) in
     cc
-
--- six nibbles as one number
-pub horner : (a b c d e f : ℕ) → packed (a ∷ b ∷ c ∷ d ∷ e ∷ f ∷ []) ≡ ((((a * 16 + b) * 16 + c) * 16 + d) * 16 + e) * 16 + f
-horner a b c d e f = omega arith
-
--- that number has these nibbles, and is below 2^24
-pub packed_below : (a b c d e f : ℕ) → a < 16 → b < 16 → c < 16 → d < 16 → e < 16 → f < 16 → ((((a * 16 + b) * 16 + c) * 16 + d) * 16 + e) * 16 + f < 2 ^ 24
-packed_below a b c d e f ha hb hc hd he hf = omega arith
-
-pub unpacked_six : (a b c d e f : ℕ) → a < 16 → b < 16 → c < 16 → d < 16 → e < 16 → f < 16
-    → unpacked (((((a * 16 + b) * 16 + c) * 16 + d) * 16 + e) * 16 + f) ≡ a ∷ b ∷ c ∷ d ∷ e ∷ f ∷ []
-unpacked_six a b c d e f ha hb hc hd he hf =
-    let n : ℕ = ((((a * 16 + b) * 16 + c) * 16 + d) * 16 + e) * 16 + f in
-    let e0 : n / 0x100000 % 16 ≡ a = omega arith in
-    let e1 : n / 0x10000 % 16 ≡ b = omega arith in
-    let e2 : n / 0x1000 % 16 ≡ c = omega arith in
-    let e3 : n / 0x100 % 16 ≡ d = omega arith in
-    let e4 : n / 0x10 % 16 ≡ e = omega arith in
-    let e5 : n % 16 ≡ f = omega arith in
-    cc
-
--- data nibbles as six are told by their number
-pub six_told : (vs : List ℕ) → Nibbles vs → length vs ≤ 6 → unpacked (packed (six vs)) ≡ six vs
-six_told vs h l =
-    let xs : List ℕ = six vs in
-    let long : length (six vs) ≡ 6 = simp (length-take, length-append, length-replicate) (omega arith) in
-    let v : Small (six vs) = take_small 6 (vs ++ replicate 6 0) (padded_small vs h) in
-    ap unpacked (ap packed (sym (six_listed (six vs) long)) ∙ horner _ _ _ _ _ _) ∙ unpacked_six _ _ _ _ _ _ (v 0) (v 1) (v 2) (v 3) (v 4) (v 5) ∙ six_listed (six vs) long
-  where
-    zeros_small : (n : ℕ) → Small (replicate n 0)
-    zeros_small zero i = lit< tt
-    zeros_small (suc n) zero = lit< tt
-    zeros_small (suc n) (suc i) = zeros_small n i
-
-    padded_small : (ws : List ℕ) → Nibbles ws → Small (ws ++ replicate 6 0)
-    padded_small [] a i = zeros_small 6 i
-    padded_small (w ∷ ws) a zero = a.0
-    padded_small (w ∷ ws) a (suc i) = padded_small ws a.1 i

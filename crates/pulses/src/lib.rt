@@ -4,6 +4,6 @@
 pub mod decoder;
 pub mod frame;
 mod interval;
-mod nibbles;
 pub mod outcome;
+mod partial;
 mod state;

@@ -21,15 +21,13 @@ pub enum Outcome {
 #[derive(Clone, Copy, PartialEq, Eq, Debug)]
 pub enum StepRefusal {
     // its time is 2^40 counts or more
-    Late,
+    Late = 6,
 }
 
 impl StepRefusal {
     pub fn number(self) -> u16
         ensures { result ≡ refusal_number self }
     {
-        match self {
-            StepRefusal::Late => 6,
-        }
+        self as u16
     }
 }

@@ -1,24 +1,26 @@
 ghost use Rattle.std.specs.Prelude.{◌≡◌, ℕ, ◌%◌, ◌^◌, ◌<◌, drop, slice_index};
-ghost use Rattle.pulses.specs.Frames.{packed, unpacked, row};
+ghost use Rattle.pulses.specs.Frames.{packed, unpacked, row, six};
 
 use super::{Frame, FrameRow};
+use crate::partial::Partial;
 
-impl Frame {
-    // The frame of a status nibble and the six data nibbles behind it.
-    pub(crate) fn of(place: u32, kept: [u8; 7]) -> Frame
-        requires { (i : ℕ) → slice_index kept i < 16 }
-        ensures placed { result.place ≡ place }
-        ensures status_first { result.status ≡ slice_index kept 0 }
-        ensures nibbles_behind { result.nibbles ≡ drop 1 kept }
-    {
-        let [status, a, b, c, d, e, f] = kept;
+// The frame of the nibbles that were taken: the status nibble and six data nibbles behind it.
+impl From<Partial> for Frame {
+    ghost use Rattle.pulses.specs.States.{taken};
+
+    ghost from_gives = { λ p f. (f.place ≡ p.start) × (f.status ≡ slice_index (taken p) 0) × (f.nibbles ≡ six (drop 1 (taken p))) };
+
+    fn from(partial: Partial) -> Frame {
+        let [status, a, b, c, d, e, f] = partial.kept;
         Frame {
-            place,
+            place: partial.start,
             status,
             nibbles: [a, b, c, d, e, f],
         }
     }
+}
 
+impl Frame {
     // The place of the edge that starts the frame.
     pub fn place(&self) -> u32
         ensures { result ≡ self.now.place }
@@ -41,15 +43,15 @@ impl Frame {
         self.nibbles
     }
 
-    // The row that stands for the frame: unpacked, it is the frame again.
+    // The row that stands for the frame: unpacked, it is the frame again. A method, as is the way back: a `From` could state
+    // what each promises only as one fact without the names of its parts.
     pub fn row(&self) -> FrameRow
         ensures plain { result ≡ row self.now.place self.now.status self.now.nibbles }
         ensures nibbles_below_sixteen { (result.status < 16) × (result.packed < 2 ^ 24) }
         ensures unpacks { unpacked result.packed ≡ self.now.nibbles }
     {
         let [a, b, c, d, e, f] = self.nibbles;
-        let high = (a as u32 * 16 + b as u32) * 16 + c as u32;
-        let packed = ((high * 16 + d as u32) * 16 + e as u32) * 16 + f as u32;
+        let packed = u32::from_be_bytes([0, a * 16 + b, c * 16 + d, e * 16 + f]);
         FrameRow {
             place: self.place,
             status: self.status,
@@ -66,19 +68,11 @@ impl FrameRow {
         ensures nibbles_unpacked { result.nibbles ≡ unpacked self.packed }
         ensures packs_again { packed result.nibbles ≡ self.packed % 2 ^ 24 }
     {
-        let six = self.packed;
-        let nibbles = [
-            (six / 0x10_0000 % 16) as u8,
-            (six / 0x1_0000 % 16) as u8,
-            (six / 0x1000 % 16) as u8,
-            (six / 0x100 % 16) as u8,
-            (six / 0x10 % 16) as u8,
-            (six % 16) as u8,
-        ];
+        let [_, ab, cd, ef] = self.packed.to_be_bytes();
         Frame {
             place: self.place,
             status: self.status % 16,
-            nibbles,
+            nibbles: [ab / 16, ab % 16, cd / 16, cd % 16, ef / 16, ef % 16],
         }
     }
 }
