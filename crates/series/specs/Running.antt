@@ -1,5 +1,6 @@
 -- A run over a list of events: when it is refused.
-use Rattle.std.specs.Prelude.{ℕ, ◌^◌, Bool, true, cond, ◌&&◌, List, [], ◌∷◌, length, Some, None, Option, nat_lt}
+use Rattle.std.specs.Prelude.{ℕ, ◌^◌, Bool, cond, List, length, Some, None, Option, nat_lt}
+use Rattle.std.specs.List.{list_all}
 use Rattle.model.specs.declared.event.Event.{Event}
 use Rattle.model.specs.Events.{time_of}
 use Rattle.series.specs.declared.decoding.RunRefusal.{RunRefusal}
@@ -7,8 +8,7 @@ use Rattle.series.specs.declared.decoding.RunRefusal.TheVariants.{Room, Late}
 
 -- every event's time is below the limit
 abbrev pub in_time : List Event → Bool
-in_time [] = true
-in_time (e ∷ es) = nat_lt (time_of e) (2 ^ 40) && in_time es
+in_time es = list_all (λ e. nat_lt (time_of e) (2 ^ 40)) es
 
 -- why a run over these events is refused, if it is, where there is room for so many outcomes; the room is tested first
 abbrev pub run_refused : List Event → ℕ → Option RunRefusal

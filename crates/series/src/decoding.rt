@@ -8,7 +8,7 @@ ghost use Rattle.series.specs.Series.{CleanSeriesReceived, MovedEdgesTolerated};
 use model::event::{Event, TIME_LIMIT};
 use model::settings::Settings;
 use pulses::decoder::Decoder;
-use pulses::outcome::Outcome;
+use pulses::outcome::{Outcome, StepRefusal};
 
 // Why a run over a list of events is not made.
 #[derive(Clone, Copy, PartialEq, Eq, Debug)]
@@ -19,16 +19,23 @@ pub enum RunRefusal {
     Late,
 }
 
+impl From<StepRefusal> for RunRefusal {
+    ghost use Rattle.series.specs.declared.decoding.RunRefusal.TheVariants.{Late};
+
+    ghost from_gives = { λ _ refusal. refusal ≡ Late };
+
+    fn from(refusal: StepRefusal) -> RunRefusal {
+        match refusal {
+            StepRefusal::Late => RunRefusal::Late,
+        }
+    }
+}
+
 // Whether every event's time is below the limit.
 fn all_in_time(events: &[Event]) -> bool
     ensures { result ≡ in_time events.now }
 {
-    for event in events {
-        if event.time() >= TIME_LIMIT {
-            return false;
-        }
-    }
-    true
+    events.iter().all(|event| event.time() < TIME_LIMIT)
 }
 
 // Takes a newly prepared decoder through the events and puts their outcomes, in order, in the place of what the list held.
@@ -52,10 +59,8 @@ pub fn decode(
     let mut decoder = Decoder::prepare(settings);
     out.clear();
     for event in events {
-        match decoder.step(*event) {
-            Ok(outcome) => out.push_reserved(outcome),
-            Err(_) => unreachable(),
-        }
+        // every time is below the limit: no step is refused
+        out.push_reserved(decoder.step(*event)?);
     }
     Ok(decoder)
 }

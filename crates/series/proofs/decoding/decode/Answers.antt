@@ -38,16 +38,16 @@ in_time_at (e ∷ es) (suc i) d h l = in_time_at es i d (and_parts (ltb (time_of
 none_late : (es : List Event) (i : ℕ) (d : Event) → in_time es ≡ true → i < length es → 2 ^ 40 ≤ time_of (get_or es i d) → ⊥
 none_late es i d h l late = omega (arith, in_time_at es i d h l, late)
 
-pub unreachable-requires : goal.unreachable-requires
-unreachable-requires c =
+pub returns-in_err-step-clause-answer : goal.returns-in_err-step-clause-answer
+returns-in_err-step-clause-answer c =
     let all : in_time c.args.events.now ≡ true = sym c.all_in_time.ensures ∙ search rules in
-    none_late c.args.events.now c.loop-event.event-index _ all c.loop-event-test.true c.in-Err.ensures.answer.0
+    absurd (none_late c.args.events.now c.loop-event.event-index _ all c.loop-event-test.true c.in_err-step.ensures.answer.0)
 
 pub loop-event-preserved : goal.loop-event-preserved
 loop-event-preserved c =
     let inv = c.loop-event.invariant in
     let s : Settings = c.prepare-decoder.result.settings in
-    let a = c.in-Ok.ensures in
+    let a = c.in_ok-step.ensures in
     let l : c.loop-event.event-index < length c.args.events.now = omega arith in (
       outcomes_on s (state_of c.loop-event.decoder) c.args.events.now c.loop-event.event-index _ l inv.2 a.answer.1 a.answer.2 (vec_items c.loop-event.out) c.push_reserved.ensures.items ∙ inv.0,
       after_on s (state_of c.loop-event.decoder) c.args.events.now c.loop-event.event-index _ l inv.2 a.answer.1 a.answer.2 ∙ inv.1,
