@@ -98,24 +98,21 @@ fn run_over_events(rt: HostRuntime) -> Result<(), Fail> {
         },
     ];
     let mut out = Vec::with_capacity(rt.alloc(), 6)?;
-    match decode(settings, &events, &mut out) {
-        Ok(_) => {}
-        Err(_) => return Err(Fail::new("refused")),
-    }
+    decode(settings, &events, &mut out)?;
     assert_eq!(rt; out.len(), 6);
     assert_eq!(rt; out.get(4).copied(), Some(framed(0, 0, 0x400000)));
     assert_eq!(rt; out.get(5).copied(), Some(failed(FaultKind::Break, 5)));
     let late = [edge(0, 1 << 40)];
-    match decode(settings, &late, &mut out) {
-        Ok(_) => return Err(Fail::new("a late event was taken")),
-        Err(e) => assert_eq!(rt; e, RunRefusal::Late),
-    }
+    assert_eq!(rt;
+        decode(settings, &late, &mut out).err(),
+        Some(RunRefusal::Late)
+    );
     assert_eq!(rt; out.len(), 6);
     let mut small = Vec::new(rt.alloc());
-    match decode(settings, &events, &mut small) {
-        Ok(_) => return Err(Fail::new("there was no room")),
-        Err(e) => assert_eq!(rt; e, RunRefusal::Room),
-    }
+    assert_eq!(rt;
+        decode(settings, &events, &mut small).err(),
+        Some(RunRefusal::Room)
+    );
     assert_eq!(rt; small.len(), 0);
     Ok(())
 }

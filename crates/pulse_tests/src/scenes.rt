@@ -36,10 +36,8 @@ pub fn edges_give(
     place: u32,
     steps: &[(u64, Outcome)],
 ) -> Result<(), Fail> {
-    let mut next = place;
-    for (time, outcome) in steps {
+    for (next, (time, outcome)) in (place..).zip(steps) {
         assert_eq!(rt; decoder.step(edge(next, *time))?, *outcome, "{}", *time);
-        next = next.wrapping_add(1);
     }
     Ok(())
 }
