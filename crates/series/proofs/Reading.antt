@@ -1,5 +1,5 @@
 -- Pulses that are read as they were sent: the run of a clean frame.
-use Rattle.std.proofs.Common.{◌≡◌, ℕ, suc, ◌+◌, ◌*◌, ◌<◌, ◌≤◌, true, false, eqb, List, [], ◌∷◌, ◌++◌, map, length, sym, refl, ap, ◌∙◌, subst, append_assoc, mul-le-mul_right, arith}
+use Rattle.std.proofs.Common.{◌≡◌, ℕ, zero, suc, ◌+◌, ◌*◌, ◌<◌, ◌≤◌, true, false, eqb, List, [], ◌∷◌, ◌++◌, map, length, take, sym, refl, ap, ◌∙◌, subst, append_assoc, mul-le-mul_right, arith}
 use Rattle.std.specs.List.{AllByRecursion}
 use Rattle.std.proofs.lemmas.List.{append-nil, length-append, length-map}
 use Rattle.std.proofs.ByRecursion.{All-weaker}
@@ -77,6 +77,21 @@ last_place u (x ∷ xs) = last_place x.place xs
 
 abbrev pub quiets : List NibblePulse → List Outcome
 quiets xs = map (λ _. Quiet) xs
+
+-- what is gathered from outcomes, and passes over those that are quiet
+pub record PassesQuiet {X : Type 0} (gathered : List Outcome → List X) : Type 0 where
+  pub none : gathered [] ≡ []
+  pub on : (os : List Outcome) → gathered (Quiet ∷ os) ≡ gathered os
+
+module _ {X : Type 0} {gathered : List Outcome → List X} (r : PassesQuiet gathered) where
+  pub past_quiets : (xs : List NibblePulse) (os : List Outcome) → gathered (quiets xs ++ os) ≡ gathered os
+  past_quiets [] os = refl
+  past_quiets (x ∷ xs) os = r.on (quiets xs ++ os) ∙ past_quiets xs os
+
+  pub none_yet : (m : ℕ) (xs : List NibblePulse) (os : List Outcome) → m ≤ length xs → gathered (take m (quiets xs ++ os)) ≡ []
+  none_yet zero xs os h = r.none
+  none_yet (suc m) [] os h = absurd (omega arith)
+  none_yet (suc m) (x ∷ xs) os h = r.on (take m (quiets xs ++ os)) ∙ none_yet m xs os (omega arith)
 
 -- pulses that are read and kept, and then whatever the others give
 front : (s : Settings) (from c : ℕ) (xs ys : List NibblePulse) (u t : ℕ) (kept : List ℕ) {os : List Outcome} {x' : PulseState}

@@ -1,5 +1,5 @@
 -- Clean series are received.
-use Rattle.std.proofs.Common.{◌≡◌, ℕ, zero, suc, ◌+◌, ◌<◌, ◌≤◌, List, [], ◌∷◌, ◌++◌, length, take, drop, sym, refl, ap, ◌∙◌, subst, ap₂, append_assoc, arith}
+use Rattle.std.proofs.Common.{◌≡◌, ℕ, zero, suc, ◌+◌, ◌<◌, List, [], ◌∷◌, ◌++◌, length, take, drop, sym, refl, ap, ◌∙◌, subst, ap₂, append_assoc, arith}
 use Rattle.std.specs.List.{AllByRecursion}
 use Rattle.model.specs.declared.settings.Settings.{Settings}
 use Rattle.model.specs.declared.event.Event.{Event}
@@ -8,37 +8,25 @@ use Rattle.model.specs.declared.fault.Fault.{Fault}
 use Rattle.pulses.specs.declared.frame.FrameRow.{FrameRow}
 use Rattle.pulses.specs.declared.outcome.Outcome.{Outcome}
 use Rattle.pulses.specs.declared.outcome.Outcome.TheVariants.{Quiet, Framed}
-use Rattle.pulses.specs.Steps.{PulseState, lost, inside, Stepped, after_frame, step, outcomes, after}
-use Rattle.series.specs.Sent.{NibblePulse, Sent, nibbles_of, frame_sent, edges, frame_edges, next_place, next_time, series, series_end, Clean}
+use Rattle.pulses.specs.Steps.{PulseState, lost, inside, after_frame, step, outcomes, after}
+use Rattle.series.specs.Sent.{Sent, nibbles_of, frame_sent, edges, frame_edges, next_place, next_time, series, series_end, Clean}
 use Rattle.series.specs.Series.{frames_of, faults_of, Cut, past, frames_sent, Received, CleanSeriesReceived}
 use Rattle.series.proofs.Opening.{Ready, after_frame_ready, Open, open_after, Mild, calm, cut_off, calibrates, begins}
-use Rattle.series.proofs.Runs.{outcomes_append, outcomes_take, outcomes_past, frames_append, faults_append}
-use Rattle.series.proofs.Reading.{quiets, given, reads}
+use Rattle.series.proofs.Runs.{outcomes_from, outcomes_append, outcomes_take, outcomes_past, frames_append, faults_append}
+use Rattle.series.proofs.Reading.{PassesQuiet, past_quiets, none_yet, given, reads}
 
 -- outcomes that give exactly the frames sent
 pub record Exactly (u : ℕ) (sent : List Sent) (os : List Outcome) : Type 0 where
   pub frames : frames_of os ≡ frames_sent u sent
   pub no_fault : faults_of os ≡ []
 
-frames_quiets : (xs : List NibblePulse) (os : List Outcome) → frames_of (quiets xs ++ os) ≡ frames_of os
-frames_quiets [] os = refl
-frames_quiets (x ∷ xs) os = frames_quiets xs os
+quiet_frames : PassesQuiet frames_of
+quiet_frames = record { none = refl; on = λ os. refl }
 
-faults_quiets : (xs : List NibblePulse) (os : List Outcome) → faults_of (quiets xs ++ os) ≡ faults_of os
-faults_quiets [] os = refl
-faults_quiets (x ∷ xs) os = faults_quiets xs os
+quiet_faults : PassesQuiet faults_of
+quiet_faults = record { none = refl; on = λ os. refl }
 
-frames_few : (m : ℕ) (xs : List NibblePulse) (os : List Outcome) → m ≤ length xs → frames_of (take m (quiets xs ++ os)) ≡ []
-frames_few zero xs os h = refl
-frames_few (suc m) [] os h = absurd (omega arith)
-frames_few (suc m) (x ∷ xs) os h = frames_few m xs os (omega arith)
-
-faults_few : (m : ℕ) (xs : List NibblePulse) (os : List Outcome) → m ≤ length xs → faults_of (take m (quiets xs ++ os)) ≡ []
-faults_few zero xs os h = refl
-faults_few (suc m) [] os h = absurd (omega arith)
-faults_few (suc m) (x ∷ xs) os h = faults_few m xs os (omega arith)
-
-mild_frames : {p : ℕ} {o : Outcome} (os : List Outcome) → Mild p o → frames_of (o ∷ os) ≡ frames_of os
+pub mild_frames : {p : ℕ} {o : Outcome} (os : List Outcome) → Mild p o → frames_of (o ∷ os) ≡ frames_of os
 mild_frames os calm = refl
 mild_frames os cut_off = refl
 
@@ -48,8 +36,8 @@ module _ (s : Settings) (g : Sent) (gr : Clean s g) (m : ℕ) (few : m < s.nibbl
   some_nibbles j u t l =
       let run = outcomes_take s (inside g.place t u g.calibration []) j (edges t (nibbles_of g)) ∙ ap (take j) (reads gr u t).out in
       record {
-        frames = ap frames_of run ∙ frames_few j (g.status ∷ g.body) _ (omega (arith, gr.count));
-        no_fault = ap faults_of run ∙ faults_few j (g.status ∷ g.body) _ (omega (arith, gr.count));
+        frames = ap frames_of run ∙ none_yet quiet_frames j (g.status ∷ g.body) _ (omega (arith, gr.count));
+        no_fault = ap faults_of run ∙ none_yet quiet_faults j (g.status ∷ g.body) _ (omega (arith, gr.count));
       }
 
   -- all of them, and then what follows
@@ -65,9 +53,9 @@ module _ (s : Settings) (g : Sent) (gr : Clean s g) (m : ℕ) (few : m < s.nibbl
       outcomes_append s x (edges t' (nibbles_of f)) es ∙ ap₂ (λ (os : List Outcome) (y : PulseState). os ++ outcomes s y es) w.out w.end in
       record {
         frames = ap frames_of run ∙ frames_append (given u f) _
-            ∙ ap₂ (λ (rs qs : List FrameRow). rs ++ qs) (frames_quiets (f.status ∷ f.body) (Framed (frame_sent u f) ∷ [])) b.frames;
+            ∙ ap₂ (λ (rs qs : List FrameRow). rs ++ qs) (past_quiets quiet_frames (f.status ∷ f.body) (Framed (frame_sent u f) ∷ [])) b.frames;
         no_fault = ap faults_of run ∙ faults_append (given u f) _
-            ∙ ap₂ (λ (rs qs : List Fault). rs ++ qs) (faults_quiets (f.status ∷ f.body) (Framed (frame_sent u f) ∷ [])) b.no_fault;
+            ∙ ap₂ (λ (rs qs : List Fault). rs ++ qs) (past_quiets quiet_faults (f.status ∷ f.body) (Framed (frame_sent u f) ∷ [])) b.no_fault;
       }
 
   -- from a ready state on
@@ -80,7 +68,7 @@ module _ (s : Settings) (g : Sent) (gr : Clean s g) (m : ℕ) (few : m < s.nibbl
       cut (suc j) l =
           let n = some_nibbles j u (t + g.calibration) (omega arith) in
           let run : outcomes s x (take (suc j) (frame_edges t g)) ≡ Quiet ∷ outcomes s (inside g.place (t + g.calibration) u g.calibration []) (take j (edges (t + g.calibration) (nibbles_of g))) =
-          ap (λ (r : Stepped). r.outcome ∷ outcomes s r.state (take j (edges (t + g.calibration) (nibbles_of g)))) (calibrates s u t g.place g.calibration gr.passes i) in
+          outcomes_from s x _ (take j (edges (t + g.calibration) (nibbles_of g))) (calibrates s u t g.place g.calibration gr.passes i) in
           record { frames = ap frames_of run ∙ n.frames; no_fault = ap faults_of run ∙ n.no_fault }
   ready_exactly (f ∷ fs) a u t {x} i =
       let t' : ℕ = t + f.calibration in
@@ -89,7 +77,7 @@ module _ (s : Settings) (g : Sent) (gr : Clean s g) (m : ℕ) (few : m < s.nibbl
       let run : outcomes s x ((frame_edges t f ++ series (next_time t f) fs) ++ take m (frame_edges (series_end (next_time t f) fs) g))
       ≡ Quiet ∷ outcomes s (inside f.place t' u f.calibration []) (edges t' (nibbles_of f) ++ es) =
       ap (outcomes s x) (append_assoc (frame_edges t f) (series (next_time t f) fs) _)
-      ∙ ap (λ (r : Stepped). r.outcome ∷ outcomes s r.state (edges t' (nibbles_of f) ++ es)) (calibrates s u t f.place f.calibration a.0.passes i) in
+      ∙ outcomes_from s x _ (edges t' (nibbles_of f) ++ es) (calibrates s u t f.place f.calibration a.0.passes i) in
       record { frames = ap frames_of run ∙ n.frames; no_fault = ap faults_of run ∙ n.no_fault }
 
   -- from any state after an edge on: the first calibration pulse may show that a frame was cut off
@@ -103,7 +91,7 @@ module _ (s : Settings) (g : Sent) (gr : Clean s g) (m : ℕ) (few : m < s.nibbl
           let n = some_nibbles j u (t + g.calibration) (omega arith) in
           let b = begins s u t g.place g.calibration gr.passes i in
           let run : outcomes s x (take (suc j) (frame_edges t g)) ≡ b.outcome ∷ outcomes s (inside g.place (t + g.calibration) u g.calibration []) (take j (edges (t + g.calibration) (nibbles_of g))) =
-          ap (λ (r : Stepped). r.outcome ∷ outcomes s r.state (take j (edges (t + g.calibration) (nibbles_of g)))) b.is in
+          outcomes_from s x _ (take j (edges (t + g.calibration) (nibbles_of g))) b.is in
           record { frames_exactly = ap frames_of run ∙ mild_frames _ b.mild ∙ n.frames; no_fault_after_calibration = ap (λ (os : List Outcome). faults_of (drop 1 os)) run ∙ n.no_fault }
   open_received (f ∷ fs) a u t {x} i =
       let t' : ℕ = t + f.calibration in
@@ -113,7 +101,7 @@ module _ (s : Settings) (g : Sent) (gr : Clean s g) (m : ℕ) (few : m < s.nibbl
       let run : outcomes s x ((frame_edges t f ++ series (next_time t f) fs) ++ take m (frame_edges (series_end (next_time t f) fs) g))
       ≡ b.outcome ∷ outcomes s (inside f.place t' u f.calibration []) (edges t' (nibbles_of f) ++ es) =
       ap (outcomes s x) (append_assoc (frame_edges t f) (series (next_time t f) fs) _)
-      ∙ ap (λ (r : Stepped). r.outcome ∷ outcomes s r.state (edges t' (nibbles_of f) ++ es)) b.is in
+      ∙ outcomes_from s x _ (edges t' (nibbles_of f) ++ es) b.is in
       record { frames_exactly = ap frames_of run ∙ mild_frames _ b.mild ∙ n.frames; no_fault_after_calibration = ap (λ (os : List Outcome). faults_of (drop 1 os)) run ∙ n.no_fault }
 
 -- the outcomes of the rest, by the state after the cut

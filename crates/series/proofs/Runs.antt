@@ -14,11 +14,16 @@ pub record Gives (s : Settings) (x : PulseState) (es : List Event) (os : List Ou
   pub out : outcomes s x es ≡ os
   pub end : after s x es ≡ x'
 
+-- the outcomes from a step on that is known
+pub outcomes_from : (s : Settings) (x : PulseState) (e : Event) (es : List Event) {o : Outcome} {y : PulseState}
+    → step s x e ≡ gives o y → outcomes s x (e ∷ es) ≡ o ∷ outcomes s y es
+outcomes_from s x e es q = ap (λ (r : Stepped). r.outcome ∷ outcomes s r.state es) q
+
 pub gives_more : {s : Settings} (x : PulseState) {x₁ x₂ : PulseState} (e : Event) {es : List Event} {o : Outcome} {os : List Outcome}
     → step s x e ≡ gives o x₁ → Gives s x₁ es os x₂ → Gives s x (e ∷ es) (o ∷ os) x₂
 gives_more {s} x e {es} {o} q g =
     record {
-      out = ap (λ (r : Stepped). r.outcome ∷ outcomes s r.state es) q ∙ ap (λ (os : List Outcome). o ∷ os) g.out;
+      out = outcomes_from s x e es q ∙ ap (λ (os : List Outcome). o ∷ os) g.out;
       end = ap (λ (r : Stepped). after s r.state es) q ∙ g.end;
     }
 

@@ -1,28 +1,22 @@
 -- Moved edges are tolerated.
-use Rattle.std.proofs.Common.{◌≡◌, ℕ, zero, suc, ◌+◌, ◌<◌, ◌≤◌, Bool, true, false, List, [], ◌∷◌, ◌++◌, length, take, sym, refl, ap, ◌∙◌, subst, append_assoc, arith}
+use Rattle.std.proofs.Common.{◌≡◌, ℕ, zero, suc, ◌+◌, ◌<◌, Bool, true, false, List, [], ◌∷◌, ◌++◌, take, sym, refl, ap, ◌∙◌, subst, append_assoc, arith}
 use Rattle.model.specs.declared.settings.Settings.{Settings}
 use Rattle.model.specs.declared.event.Event.{Event}
 use Rattle.model.specs.declared.event.Event.TheVariants.{Edge}
 use Rattle.pulses.specs.declared.outcome.Outcome.{Outcome}
 use Rattle.pulses.specs.declared.outcome.Outcome.TheVariants.{Quiet, Skipped, Framed, Failed}
 use Rattle.pulses.specs.declared.frame.FrameRow.{FrameRow}
-use Rattle.pulses.specs.Steps.{PulseState, lost, inside, Stepped, gives, step, outcomes, after}
-use Rattle.series.specs.Sent.{NibblePulse, nibbles_of, frame_sent, edges, finish, next_place, next_time, Clean, Arrival, as_sent, moved, sent_of, nibble_edges, arrival_edges, arrivals, arrivals_end, Tolerable, AllTolerable}
+use Rattle.pulses.specs.Steps.{PulseState, lost, inside, gives, step, outcomes, after}
+use Rattle.series.specs.Sent.{nibbles_of, frame_sent, edges, finish, next_place, next_time, Clean, Arrival, as_sent, moved, sent_of, nibble_edges, arrival_edges, arrivals, arrivals_end, Tolerable, AllTolerable}
 use Rattle.series.specs.Series.{frames_of, reports_of, Calibrated, AtMostAFault, FairSoFar, Tolerated, unfinished, completed, MovedEdgesTolerated}
 use Rattle.series.proofs.Opening.{Ready, after_frame_ready, Open, open_after, Mild, calm, cut_off, calibrates, begins}
-use Rattle.series.proofs.Runs.{outcomes_append, outcomes_take, outcomes_length}
-use Rattle.series.proofs.Reading.{quiets, reads}
-use Rattle.series.proofs.Receiving.{past_cut}
+use Rattle.series.proofs.Runs.{outcomes_from, outcomes_append, outcomes_take, outcomes_length}
+use Rattle.series.proofs.Reading.{PassesQuiet, past_quiets, none_yet, reads}
+use Rattle.series.proofs.Receiving.{mild_frames, past_cut}
 use Rattle.series.proofs.Moving.{Turn, moved_turn, moved_part}
 
-reports_quiets : (xs : List NibblePulse) (os : List Outcome) → reports_of (quiets xs ++ os) ≡ reports_of os
-reports_quiets [] os = refl
-reports_quiets (x ∷ xs) os = reports_quiets xs os
-
-reports_few : (m : ℕ) (xs : List NibblePulse) (os : List Outcome) → m ≤ length xs → reports_of (take m (quiets xs ++ os)) ≡ []
-reports_few zero xs os h = refl
-reports_few (suc m) [] os h = absurd (omega arith)
-reports_few (suc m) (x ∷ xs) os h = reports_few m xs os (omega arith)
+quiet_reports : PassesQuiet reports_of
+quiet_reports = record { none = refl; on = λ os. refl }
 
 -- the frames are among the reports
 frames_reports : (os : List Outcome) → frames_of (reports_of os) ≡ frames_of os
@@ -47,10 +41,6 @@ so_far_none : (h : Arrival) → FairSoFar h []
 so_far_none (as_sent f) = refl
 so_far_none (moved f es) = tt
 
-mild_frames : {p : ℕ} {o : Outcome} (os : List Outcome) → Mild p o → frames_of (o ∷ os) ≡ frames_of os
-mild_frames os calm = refl
-mild_frames os cut_off = refl
-
 -- the state inside the frame h, which started at the edge of the place u, and whose first nibble starts at the time t
 abbrev pub begun : ℕ → ℕ → Arrival → PulseState
 begun u t h = inside (sent_of h).place t u (sent_of h).calibration []
@@ -67,7 +57,7 @@ module _ (s : Settings) where
       let w = reads r u t' in
       record {
         report = Framed (frame_sent u f);
-        just_one = ap reports_of w.out ∙ reports_quiets (f.status ∷ f.body) (Framed (frame_sent u f) ∷ []);
+        just_one = ap reports_of w.out ∙ past_quiets quiet_reports (f.status ∷ f.body) (Framed (frame_sent u f) ∷ []);
         fair = refl;
         ready = subst (Ready f.check.place (finish t' (nibbles_of f))) (sym w.end) (after_frame_ready s f.check.place (finish t' (nibbles_of f)));
       }
@@ -79,7 +69,7 @@ module _ (s : Settings) where
   part (as_sent f) t r u m l =
       let t' : ℕ = t + f.calibration in
       ap reports_of (outcomes_take s (begun u t' (as_sent f)) m (edges t' (nibbles_of f)) ∙ ap (take m) (reads r u t').out)
-      ∙ reports_few m (f.status ∷ f.body) _ (omega (arith, r.count))
+      ∙ none_yet quiet_reports m (f.status ∷ f.body) _ (omega (arith, r.count))
   part (moved f es) t r u m l = moved_part s f r.0 u (t + f.calibration) es r.1 m l
 
   -- a frame whose calibration pulse was taken, and what follows it
@@ -93,7 +83,7 @@ module _ (s : Settings) where
       let nib : List Event = nibble_edges t' h in
       let a = turn h t r u in
       let run : outcomes s x (arrival_edges t h ++ es) ≡ o ∷ (outcomes s (begun u t' h) nib ++ outcomes s (after s (begun u t' h) nib) es) =
-      ap (λ (y : Stepped). y.outcome ∷ outcomes s y.state (nib ++ es)) q ∙ ap (λ (os : List Outcome). o ∷ os) (outcomes_append s (begun u t' h) nib es) in
+      outcomes_from s x _ (nib ++ es) q ∙ ap (λ (os : List Outcome). o ∷ os) (outcomes_append s (begun u t' h) nib es) in
       subst (Tolerated g among u t (h ∷ hs) (arrival_edges t h ++ es)) (sym run)
       (completed
       (record {
@@ -117,7 +107,7 @@ module _ (s : Settings) where
         let es : List Event = take j (nibble_edges t' g) in
         let p = part g t r u j (omega arith) in
         let run : outcomes s x (take (suc j) (arrival_edges t g)) ≡ o ∷ outcomes s (begun u t' g) es =
-        ap (λ (y : Stepped). y.outcome ∷ outcomes s y.state es) q in
+        outcomes_from s x _ es q in
         subst (Tolerated g among u t [] (take (suc j) (arrival_edges t g))) (sym run)
         (unfinished (ap suc (outcomes_length s (begun u t' g) es)) cal (mild (outcomes s (begun u t' g) es) ∙ so_far_frames g (outcomes s (begun u t' g) es) p) p)
 
