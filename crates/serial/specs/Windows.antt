@@ -1,5 +1,5 @@
 -- The pairs that a window keeps, and what it says of them.
-use Rattle.std.specs.Prelude.{ℕ, ◌-◌, cond, List, [], ◌∷◌, map, length, take, drop, Some, None, Option}
+use Rattle.std.specs.Prelude.{ℕ, ◌-◌, cond, List, [], ◌∷◌, map, length, drop, Some, None, Option}
 use Rattle.model.specs.declared.fault.FaultKind.TheVariants.{SerialCheck}
 use Rattle.serial.specs.declared.pair.Pair.{Pair}
 use Rattle.serial.specs.declared.report.SerialReport.{SerialReport}
@@ -20,7 +20,7 @@ paired (p ∷ ps) (n ∷ ns) = record { pair = p; place = n } ∷ paired ps ns
 
 -- what a window keeps, oldest first
 abbrev pub kept : {F : Type 0} → Window F → List Kept
-kept w = paired (drop w.start (take w.end w.pairs)) (drop w.start (take w.end w.places))
+kept w = paired w.pairs w.places
 
 -- the last n of a list, or all if there are fewer
 abbrev pub last : {X : Type 0} → ℕ → List X → List X

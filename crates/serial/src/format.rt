@@ -1,5 +1,5 @@
 // What a serial format is.
-ghost use Rattle.std.specs.Prelude.{◌≡◌};
+ghost use Rattle.std.specs.Prelude.{◌≡◌, ℕ};
 ghost use Rattle.serial.specs.Format.{Format, LawfulFormat};
 
 use crate::pair::Pair;
@@ -9,13 +9,11 @@ pub trait SerialFormat {
     // how many pairs a message has
     const L: usize;
 
+    ghost L: { ℕ };
+
     type Message: Copy;
 
     ghost meaning: { Format Self.Message };
-
-    // L itself, as the meaning has it.
-    fn length() -> usize
-        ensures { result ≡ meaning.size };
 
     // Whether the pairs match the framing; never, if there are not L of them.
     fn matches(pairs: &[Pair]) -> bool
@@ -24,6 +22,9 @@ pub trait SerialFormat {
     // The message of a lawful list of pairs; none of any other.
     fn message(pairs: &[Pair]) -> Option<Self::Message>
         ensures { result ≡ meaning.told pairs.now };
+
+    // L is the length that the meaning has
+    ghost size: { L ≡ meaning.size };
 
     // the law that each format keeps
     ghost lawful: { LawfulFormat meaning };

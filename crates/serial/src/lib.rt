@@ -4,5 +4,6 @@
 
 pub mod format;
 pub mod pair;
+mod recent;
 pub mod report;
 pub mod window;

@@ -10,7 +10,7 @@ pub struct Pair {
 }
 
 impl Pair {
-    // The pair of a status; its other bits do not count.
+    // The pair of a status; its other bits do not count. No `From`, which keeps all that a value says.
     pub fn of_status(status: u8) -> Pair
         ensures { result ≡ pair_of status }
     {

@@ -1,21 +1,66 @@
-// The last pairs of a channel.
-ghost use Rattle.std.specs.Prelude.{◌+◌, ◌≤◌};
+// The last pairs of a channel, and what they say.
+ghost use Rattle.std.specs.Prelude.{◌≡◌, [], ◌∷◌, ◌++◌, length};
 
+use crate::format::SerialFormat;
 use crate::pair::Pair;
+use crate::recent::Recent;
+use crate::report::SerialReport;
 use std::marker::PhantomData;
 
-pub mod taking;
-
-// The pairs kept, and the places of their frames, stand from `start` up to `end`. Rows that are longer than any message
-// let them move on by one at each frame, and back to the front only now and then.
+// The pairs kept, and the places of their frames: two rows, since a format reads the pairs as one slice.
 #[derive(Drop)]
 pub struct Window<F> {
-    pairs: [Pair; 64],
-    places: [u32; 64],
-    start: usize,
-    end: usize,
+    pairs: Recent<Pair>,
+    places: Recent<u32>,
     format: PhantomData<F>,
-    ghost ordered: { start ≤ end },
-    ghost within: { end ≤ 64 },
-    ghost few: { end ≤ start + 18 },
+    ghost even: { length pairs ≡ length places },
+}
+
+impl<F: SerialFormat> Window<F> {
+    ghost use Rattle.serial.specs.Runs.{JoinedListsToldWhole};
+    ghost use Rattle.serial.specs.Windows.{last, kept, reported};
+
+    // A window that keeps nothing yet. Lawful lists that are joined will be told whole by it, and nothing else.
+    pub fn new() -> Window<F>
+        ensures empty { kept result ≡ [] }
+        ensures joined_lists_told_whole { JoinedListsToldWhole F.SerialFormat.meaning }
+    {
+        let blank = Pair {
+            high: false,
+            low: false,
+        };
+        Window {
+            pairs: Recent::new(blank),
+            places: Recent::new(0),
+            format: PhantomData,
+        }
+    }
+
+    // Keeps nothing any more.
+    pub fn empty(&mut self)
+        ensures { kept self.new ≡ [] }
+    {
+        self.pairs.clear();
+        self.places.clear();
+    }
+
+    // What the pairs kept say at an event.
+    fn judge(&self, event: u32) -> Option<SerialReport<F::Message>>
+        ensures { result ≡ reported F.SerialFormat.meaning (kept self.now) event }
+    {
+        let pairs = self.pairs.as_slice();
+        let place = *self.places.as_slice().first()?;
+        F::matches(pairs).then(|| SerialReport::judged(F::message(pairs), place, event))
+    }
+
+    // Takes the pair of a frame with the frame's place, at the event that ended the frame.
+    // If the pairs kept then match the framing, they tell a message or, where the check does not fit, a fault at the event.
+    pub fn take(&mut self, pair: Pair, place: u32, event: u32) -> Option<SerialReport<F::Message>>
+        ensures kept { kept self.new ≡ last F.SerialFormat.meaning.size (kept self.old ++ record { pair = pair; place = place } ∷ []) }
+        ensures report { result ≡ reported F.SerialFormat.meaning (kept self.new) event }
+    {
+        self.pairs.push(pair, F::L);
+        self.places.push(place, F::L);
+        self.judge(event)
+    }
 }

@@ -1,0 +1,76 @@
+// The last things that came, in fixed memory.
+ghost use Rattle.std.specs.Prelude.{◌≡◌, ◌+◌, ◌-◌, ◌<◌, ◌≤◌, List, [], ◌∷◌, ◌++◌, length, take, drop};
+
+use std::marker::Model;
+
+// What is kept stands from `start` up to `end`. A row that is longer than what is kept lets it move on by one at each push, and
+// back to the front only now and then.
+#[derive(Drop)]
+pub(crate) struct Recent<T> {
+    row: [T; 64],
+    start: usize,
+    end: usize,
+}
+
+// Clauses see what is kept, oldest first.
+impl<T> Model for Recent<T> {
+    ghost Value = { List T };
+
+    ghost view = { λ r. drop r.start (take r.end r.row) };
+
+    ghost invariant = { λ r. (r.start ≤ r.end) × (r.end ≤ 64) × (r.end < r.start + 64) };
+}
+
+// Moves what stands from `from` on to the front.
+fn to_front<T: Copy>(row: &mut [T], from: usize)
+    requires { from ≤ length row.old }
+    ensures { take (length row.old - from) row.new ≡ drop from row.old }
+{
+    row.copy_within(from.., 0);
+}
+
+impl<T: Copy> Recent<T> {
+    ghost use Rattle.serial.specs.Windows.{last};
+
+    // Nothing is kept yet; `blank` fills the memory.
+    pub(crate) fn new(blank: T) -> Recent<T>
+        ensures { result ≡ [] }
+    {
+        Recent {
+            row: [blank; 64],
+            start: 0,
+            end: 0,
+        }
+    }
+
+    pub(crate) fn clear(&mut self)
+        ensures { self.new ≡ [] }
+    {
+        self.start = 0;
+        self.end = 0;
+    }
+
+    pub(crate) fn as_slice(&self) -> &[T]
+        ensures { result.now ≡ self.now }
+    {
+        &self.row[..self.end][self.start..]
+    }
+
+    // Keeps one thing more, and of all the last `most`.
+    pub(crate) fn push(&mut self, x: T, most: usize)
+        requires some { 1 ≤ most }
+        requires few { most < 64 }
+        ensures { self.new ≡ last most (self.old ++ x ∷ []) }
+    {
+        if self.end == 64 {
+            to_front(&mut self.row, self.start);
+            self.end -= self.start;
+            self.start = 0;
+        }
+        self.row[self.end] = x;
+        self.end += 1;
+        if self.end - self.start > most {
+            self.start = self.end - most;
+        }
+    }
+}
