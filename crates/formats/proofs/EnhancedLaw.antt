@@ -8,7 +8,8 @@ use Rattle.serial.specs.declared.pair.Pair.{Pair}
 use Rattle.formats.specs.declared.enhanced.EnhancedMessage.{EnhancedMessage}
 use Rattle.formats.specs.declared.enhanced.Configuration.{Configuration}
 use Rattle.formats.specs.declared.enhanced.Configuration.TheVariants.{Data12, Data16}
-use Rattle.serial.specs.Pairs.{bit3, read, number, spelled}
+use Rattle.formats.specs.declared.layout.Position.TheVariants.{Bit3}
+use Rattle.formats.specs.Positions.{read, number, spelled}
 use Rattle.formats.specs.Layout.{lawful_by}
 use Rattle.formats.specs.Enhanced.{layout, id_bits, data_bits, configuration_of, shaped, content, enhanced, id_limit, data_limit, Within, sent, ToldWithinTheFields, EachMessageHasItsList}
 use Rattle.formats.proofs.Numbers.{bits, number_bits, spelled_below}
@@ -25,7 +26,7 @@ shaped_within Data16 ps = record { id_fits = spelled_below ps (id_bits Data16); 
 pub told_within_the_fields : ToldWithinTheFields
 told_within_the_fields ps m e =
     let is : content ps ≡ m = told_content (lawful_by layout check6 ps) (content ps) m e in
-    subst Within is (shaped_within (configuration_of (read ps (bit3 7))) ps)
+    subst Within is (shaped_within (configuration_of (read ps (Bit3 7))) ps)
 
 pub groups_wide : AllByRecursion (λ at. length at ≡ 6) layout.covered
 groups_wide = (refl, (refl, (refl, (refl, tt))))

@@ -1,19 +1,33 @@
 -- The number that bits make.
-use Rattle.std.specs.Prelude.{◌≡◌, ℕ, zero, suc, ◌+◌, ◌*◌, ◌/◌, ◌%◌, ◌^◌, ◌<◌, ◌≤◌, Bool, true, false, List, [], ◌∷◌, map, length, ◌==◌, refl}
-use Rattle.std.proofs.Common.{ap, subst, ◌∙◌, mul_assoc, add-mul, mod-eq_of_lt, arith}
-use Rattle.std.proofs.Math.Nat.{mod-one}
+use Rattle.std.proofs.Common.{◌≡◌, ℕ, zero, suc, ◌+◌, ◌*◌, ◌/◌, ◌%◌, ◌^◌, ◌<◌, ◌≤◌, Bool, true, false, List, [], ◌∷◌, map, length, ◌==◌, refl, arith, ◌∙◌, ap, subst, mul_assoc, add-mul, mod-eq_of_lt}
+use Rattle.std.specs.List.{fold}
+use Rattle.std.proofs.Math.Pow.{pow_mono}
 use Rattle.std.proofs.lemmas.Nat.{pow-add, mod-pow-add, mod_below, pow_pos}
+use Rattle.std.proofs.Math.Nat.{mod-one}
 use Rattle.std.proofs.lemmas.List.{length-map}
 use Rattle.serial.specs.declared.pair.Pair.{Pair}
-use Rattle.serial.specs.Pairs.{Position, digit, onto, number, read, spelled}
+use Rattle.formats.specs.declared.layout.Position.{Position}
+use Rattle.formats.specs.Positions.{digit, onto, number, read, spelled}
 
-pub digit_small : (b : Bool) → digit b ≤ 1
+digit_small : (b : Bool) → digit b ≤ 1
 digit_small true = omega arith
 digit_small false = omega arith
 
 -- one bit more
-pub more_bits : (n i d : ℕ) → n < 2 ^ i → d ≤ 1 → n * 2 + d < 2 ^ (i + 1)
+more_bits : (n i d : ℕ) → n < 2 ^ i → d ≤ 1 → n * 2 + d < 2 ^ (i + 1)
 more_bits n i d h k = omega (arith, pow-add 2 i 1)
+
+-- sixteen bits never run over
+pub fold_onto : (ps : List Pair) (at : List Position) (n i : ℕ) → n < 2 ^ i → i + length at ≤ 16
+    → fold (λ k p. k * 2 % 65536 + digit (read ps p)) n at ≡ onto n (map (read ps) at)
+fold_onto ps [] n i h k = refl
+fold_onto ps (p ∷ at) n i h k =
+    let d : ℕ = digit (read ps p) in
+    let m : n * 2 + d < 2 ^ (i + 1) = more_bits n i d h (digit_small (read ps p)) in
+    let top : 2 ^ (i + 1) ≤ 2 ^ 16 = pow_mono {i = i + 1} {j = 16} (omega arith) in
+    let whole : n * 2 % 65536 ≡ n * 2 = mod-eq_of_lt (omega arith) in
+    ap (λ (x : ℕ). fold (λ k p. k * 2 % 65536 + digit (read ps p)) (x + d) at) whole
+    ∙ fold_onto ps at (n * 2 + d) (i + 1) m (omega arith)
 
 onto_below : (bs : List Bool) (n i : ℕ) → n < 2 ^ i → onto n bs < 2 ^ (i + length bs)
 onto_below [] n i h = let e : i + 0 ≡ i = omega arith in rw e h

@@ -5,7 +5,7 @@ use Rattle.std.specs.List.{AllByRecursion}
 use Rattle.checks.specs.Checks.{check4}
 use Rattle.checks.proofs.Found.{check4_below}
 use Rattle.serial.specs.declared.pair.Pair.{Pair}
-use Rattle.serial.specs.Pairs.{spelled}
+use Rattle.formats.specs.Positions.{spelled}
 use Rattle.formats.specs.Layout.{lawful_by}
 use Rattle.formats.specs.Short.{layout, id_bits, data_bits, content, Within, sent, ToldWithinTheFields, EachMessageHasItsList}
 use Rattle.formats.proofs.Numbers.{number_bits, spelled_below}

@@ -5,13 +5,15 @@ use Rattle.serial.specs.declared.pair.Pair.{Pair}
 use Rattle.formats.specs.declared.enhanced.EnhancedMessage.{EnhancedMessage}
 use Rattle.formats.specs.declared.enhanced.Configuration.{Configuration}
 use Rattle.formats.specs.declared.enhanced.Configuration.TheVariants.{Data12, Data16}
-use Rattle.serial.specs.Pairs.{Position, bit3, bit2, bits3, bits2, read, spelled}
 use Rattle.serial.specs.Format.{Format}
+use Rattle.formats.specs.declared.layout.Position.{Position}
+use Rattle.formats.specs.declared.layout.Position.TheVariants.{Bit3, Bit2}
+use Rattle.formats.specs.Positions.{bits3, bits2, read, spelled}
 use Rattle.formats.specs.Layout.{Layout, format_by, written_by}
 
 -- bit 2 and then bit 3 of three pairs, from the one with the number k on
 abbrev pub group : ℕ → List Position
-group k = bit2 k ∷ bit3 k ∷ bit2 (suc k) ∷ bit3 (suc k) ∷ bit2 (suc (suc k)) ∷ bit3 (suc (suc k)) ∷ []
+group k = Bit2 k ∷ Bit3 k ∷ Bit2 (suc k) ∷ Bit3 (suc k) ∷ Bit2 (suc (suc k)) ∷ Bit3 (suc (suc k)) ∷ []
 
 -- bit 3 is 1 in the first six pairs and 0 in the seventh, the thirteenth and the last;
 -- the check stands in bit 2 of the first six and covers the others
@@ -19,14 +21,14 @@ abbrev pub layout : Layout
 layout = record {
   size = 18;
   ones = bits3 0 6;
-  zeros = bit3 6 ∷ bit3 12 ∷ bit3 17 ∷ [];
+  zeros = Bit3 6 ∷ Bit3 12 ∷ Bit3 17 ∷ [];
   covered = group 6 ∷ group 9 ∷ group 12 ∷ group 15 ∷ [];
   check_bits = bits2 0 6;
 }
 
 -- the bit that tells which of the two shapes of id and data follows
 abbrev pub configuration_bits : List Position
-configuration_bits = bit3 7 ∷ []
+configuration_bits = Bit3 7 ∷ []
 
 abbrev pub configuration_of : Bool → Configuration
 configuration_of true = Data16
@@ -49,7 +51,7 @@ abbrev pub shaped : Configuration → List Pair → EnhancedMessage
 shaped c ps = record { configuration = c; id = spelled ps (id_bits c); «data» = spelled ps (data_bits c) }
 
 abbrev pub content : List Pair → EnhancedMessage
-content ps = shaped (configuration_of (read ps (bit3 7))) ps
+content ps = shaped (configuration_of (read ps (Bit3 7))) ps
 
 abbrev pub enhanced : Format EnhancedMessage
 enhanced = format_by layout check6 content

@@ -1,9 +1,12 @@
 -- A format by the positions of its bits.
-use Rattle.std.specs.Prelude.{ℕ, ◌-◌, ◌/◌, ◌%◌, ◌^◌, Bool, true, false, cond, not, ◌&&◌, List, [], ◌∷◌, map, length, Some, None, ◌==◌}
+use Rattle.std.specs.Prelude.{ℕ, ◌-◌, ◌/◌, ◌%◌, ◌^◌, Bool, true, false, cond, ◌&&◌, List, [], ◌∷◌, map, length, Some, None, ◌==◌}
 use Rattle.std.specs.List.{range_with_len}
 use Rattle.serial.specs.declared.pair.Pair.{Pair}
-use Rattle.serial.specs.Pairs.{Position, bit3, bit2, read, spelled}
 use Rattle.serial.specs.Format.{Format}
+use Rattle.formats.specs.declared.layout.Position.{Position}
+use Rattle.formats.specs.declared.layout.Position.TheVariants.{Bit3, Bit2}
+use Rattle.formats.specs.declared.layout.Layout.{Layout as Coded}
+use Rattle.formats.specs.Positions.{each, spelled}
 
 -- how many pairs there are, which bits are 1 and which are 0 in every list, the groups of bits that the check runs over,
 -- and the bits of the check itself
@@ -14,11 +17,9 @@ pub record Layout : Type 0 where
   pub covered : List (List Position)
   pub check_bits : List Position
 
--- each of the bits is b
-abbrev pub each : Bool → List Pair → List Position → Bool
-each b ps [] = true
-each true ps (p ∷ at) = read ps p && each true ps at
-each false ps (p ∷ at) = not (read ps p) && each false ps at
+-- what the code's layout says
+abbrev pub layout_of : {groups width : ℕ} → Coded groups width → Layout
+layout_of l = record { size = l.size; ones = l.ones.now; zeros = l.zeros.now; covered = l.covered; check_bits = l.check_bits }
 
 abbrev pub framed_by : Layout → List Pair → Bool
 framed_by l ps = length ps == l.size && (each true ps l.ones && each false ps l.zeros)
@@ -44,10 +45,10 @@ pub record Field : Type 0 where
   pub value : ℕ
 
 abbrev pub same_position : Position → Position → Bool
-same_position (bit3 j) (bit3 k) = j == k
-same_position (bit3 j) (bit2 k) = false
-same_position (bit2 j) (bit3 k) = false
-same_position (bit2 j) (bit2 k) = j == k
+same_position (Bit3 j) (Bit3 k) = j == k
+same_position (Bit3 j) (Bit2 k) = false
+same_position (Bit2 j) (Bit3 k) = false
+same_position (Bit2 j) (Bit2 k) = j == k
 
 -- the bit of a number that stands at a position, if its bits are put there, highest first; else the other
 abbrev pub put_at : List Position → ℕ → Position → Bool → Bool
@@ -61,7 +62,7 @@ bit_of (f ∷ fs) p = put_at f.at f.value p (bit_of fs p)
 
 -- so many pairs in which the fields are written
 abbrev pub written : ℕ → List Field → List Pair
-written size fs = map (λ k. record { high = bit_of fs (bit3 k); low = bit_of fs (bit2 k) }) (range_with_len 0 size)
+written size fs = map (λ k. record { high = bit_of fs (Bit3 k); low = bit_of fs (Bit2 k) }) (range_with_len 0 size)
 
 -- the fields of a message written as a list of pairs, with the ones and the check that it needs
 abbrev pub written_by : Layout → (List ℕ → ℕ) → List Field → List Pair

@@ -1,24 +1,28 @@
 -- The law of every format that goes by a layout: one computed test of the layout's positions is all that it needs.
-use Rattle.std.specs.Prelude.{◌≡◌, ℕ, ◌+◌, ◌<◌, ◌≤◌, Bool, true, false, cond, not, ◌&&◌, ◌||◌, T, List, [], ◌∷◌, ◌++◌, length, take, drop, is_some, Some, None, ◌==◌, ◌≢◌, nat_lt, slice_index_or, refl}
+use Rattle.std.specs.Prelude.{◌≡◌, ℕ, ◌+◌, ◌<◌, ◌≤◌, Bool, true, false, cond, ◌&&◌, ◌||◌, T, List, [], ◌∷◌, ◌++◌, length, take, drop, is_some, Some, None, ◌==◌, ◌≢◌, nat_lt, slice_index_or, refl}
+use Rattle.std.specs.Bool.{beq}
 use Rattle.std.proofs.Common.{sym, ap, subst, ◌∙◌, inl, inr}
 use Rattle.std.proofs.Math.Nat.{lt_irrefl}
-use Rattle.std.proofs.lemmas.Bool.{and_parts, or_cases, eqb-true, ltb-true, not-true, both_ways, true≢false}
+use Rattle.std.proofs.lemmas.Bool.{and_parts, or_cases, eqb-true, ltb-true, both_ways, true≢false}
 use Rattle.checks.proofs.Upto.{upto, upto_at}
 use Rattle.serial.specs.declared.pair.Pair.{Pair}
-use Rattle.serial.specs.Pairs.{Position, bit3, bit2, blank, read}
+use Rattle.serial.specs.Pairs.{blank}
 use Rattle.serial.specs.Format.{LawfulFormat}
 use Rattle.serial.proofs.Joined.{Inside, apart_from, stretch_at}
 use Rattle.serial.proofs.Truths.{so, is_so}
-use Rattle.formats.specs.Layout.{Layout, each, framed_by, lawful_by, check_fits, format_by, same_position}
+use Rattle.formats.specs.declared.layout.Position.{Position}
+use Rattle.formats.specs.declared.layout.Position.TheVariants.{Bit3, Bit2}
+use Rattle.formats.specs.Positions.{each, read}
+use Rattle.formats.specs.Layout.{Layout, framed_by, lawful_by, check_fits, format_by, same_position}
 
 -- the position i pairs on
 abbrev shift : ℕ → Position → Position
-shift i (bit3 k) = bit3 (i + k)
-shift i (bit2 k) = bit2 (i + k)
+shift i (Bit3 k) = Bit3 (i + k)
+shift i (Bit2 k) = Bit2 (i + k)
 
 abbrev inside_pairs : ℕ → Position → Bool
-inside_pairs n (bit3 k) = nat_lt k n
-inside_pairs n (bit2 k) = nat_lt k n
+inside_pairs n (Bit3 k) = nat_lt k n
+inside_pairs n (Bit2 k) = nat_lt k n
 
 abbrev among : Position → List Position → Bool
 among p [] = false
@@ -34,17 +38,23 @@ abbrev pub separated : Layout → Bool
 separated l = upto l.size (λ i. (i == 0) || clash l.size i l.ones l.zeros)
 
 same_read : (ps : List Pair) (p q : Position) → same_position p q ≡ true → read ps p ≡ read ps q
-same_read ps (bit3 j) (bit3 k) e = ap (λ (i : ℕ). (slice_index_or ps i blank).high) (eqb-true j k e)
-same_read ps (bit3 j) (bit2 k) e = absurd (true≢false (sym e))
-same_read ps (bit2 j) (bit3 k) e = absurd (true≢false (sym e))
-same_read ps (bit2 j) (bit2 k) e = ap (λ (i : ℕ). (slice_index_or ps i blank).low) (eqb-true j k e)
+same_read ps (Bit3 j) (Bit3 k) e = ap (λ (i : ℕ). (slice_index_or ps i blank).high) (eqb-true j k e)
+same_read ps (Bit3 j) (Bit2 k) e = absurd (true≢false (sym e))
+same_read ps (Bit2 j) (Bit3 k) e = absurd (true≢false (sym e))
+same_read ps (Bit2 j) (Bit2 k) e = ap (λ (i : ℕ). (slice_index_or ps i blank).low) (eqb-true j k e)
+
+is_that : (a b : Bool) → beq a b ≡ true → a ≡ b
+is_that true true e = refl
+is_that false false e = refl
+is_that true false e = cc
+is_that false true e = cc
 
 zero_read : (ps : List Pair) (p : Position) (zeros : List Position) → among p zeros ≡ true → each false ps zeros ≡ true → read ps p ≡ false
 zero_read ps p [] a e = absurd (true≢false (sym a))
 zero_read ps p (q ∷ qs) a e =
-    let h = and_parts (not (read ps q)) (each false ps qs) e in
+    let h = and_parts (beq (read ps q) false) (each false ps qs) e in
     elim (or_cases (same_position p q) (among p qs) a) [
-      | inl s ↦ same_read ps p q s ∙ not-true (read ps q) h.0
+      | inl s ↦ same_read ps p q s ∙ is_that (read ps q) false h.0
       | inr r ↦ zero_read ps p qs r h.1
     ]
 
@@ -52,17 +62,17 @@ module _ (n i : ℕ) (l s : List Pair) (shifted_read : (p : Position) → inside
   no_match : (ones zeros : List Position) → clash n i ones zeros ≡ true → each true s ones ≡ true → each false l zeros ≢ true
   no_match [] zeros c o z = true≢false (sym c)
   no_match (p ∷ ones) zeros c o z =
-      let h = and_parts (read s p) (each true s ones) o in
+      let h = and_parts (beq (read s p) true) (each true s ones) o in
       elim (or_cases (inside_pairs n (shift i p) && among (shift i p) zeros) (clash n i ones zeros) c) [
         | inl both ↦
             let g = and_parts (inside_pairs n (shift i p)) (among (shift i p) zeros) both in
-            both_ways (read s p) (shifted_read p g.0 ∙ zero_read l (shift i p) zeros g.1 z) h.0
+            both_ways (read s p) (shifted_read p g.0 ∙ zero_read l (shift i p) zeros g.1 z) (is_that (read s p) true h.0)
         | inr more ↦ no_match ones zeros more h.1 z
       ]
 
 stretch_read : (n i : ℕ) (l rest : List Pair) → length l ≡ n → (p : Position) → inside_pairs n (shift i p) ≡ true → read (take n (drop i (l ++ rest))) p ≡ read l (shift i p)
-stretch_read n i l rest len (bit3 k) t = ap (λ (q : Pair). q.high) (stretch_at n i k l rest len (ltb-true (i + k) n t))
-stretch_read n i l rest len (bit2 k) t = ap (λ (q : Pair). q.low) (stretch_at n i k l rest len (ltb-true (i + k) n t))
+stretch_read n i l rest len (Bit3 k) t = ap (λ (q : Pair). q.high) (stretch_at n i k l rest len (ltb-true (i + k) n t))
+stretch_read n i l rest len (Bit2 k) t = ap (λ (q : Pair). q.low) (stretch_at n i k l rest len (ltb-true (i + k) n t))
 
 some_told : {M : Type 0} (b : Bool) (m : M) → b ≡ is_some (cond b (Some m) None)
 some_told true m = refl

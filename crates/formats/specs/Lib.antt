@@ -1,3 +1,4 @@
+pub mod Positions
 pub mod Layout
 pub mod Short
 pub mod Enhanced

@@ -3,15 +3,17 @@ use Rattle.std.specs.Prelude.{◌≡◌, ◌<◌, List, [], ◌∷◌, Some}
 use Rattle.checks.specs.Checks.{check4}
 use Rattle.serial.specs.declared.pair.Pair.{Pair}
 use Rattle.formats.specs.declared.short.ShortMessage.{ShortMessage}
-use Rattle.serial.specs.Pairs.{Position, bit3, bits3, bits2, spelled}
 use Rattle.serial.specs.Format.{Format}
+use Rattle.formats.specs.declared.layout.Position.{Position}
+use Rattle.formats.specs.declared.layout.Position.TheVariants.{Bit3}
+use Rattle.formats.specs.Positions.{bits3, bits2, spelled}
 use Rattle.formats.specs.Layout.{Layout, format_by, written_by}
 
 -- only the first pair has bit 3 set; bit 2 carries the id, then the data, then the check nibble of both
 abbrev pub layout : Layout
 layout = record {
   size = 16;
-  ones = bit3 0 ∷ [];
+  ones = Bit3 0 ∷ [];
   zeros = bits3 1 15;
   covered = bits2 0 4 ∷ bits2 4 4 ∷ bits2 8 4 ∷ [];
   check_bits = bits2 12 4;

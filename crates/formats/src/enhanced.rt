@@ -1,13 +1,13 @@
 // The enhanced serial format.
-ghost use Rattle.std.specs.Prelude.{◌≡◌, ◌<◌, true, false, [], ◌∷◌, length};
+ghost use Rattle.std.specs.Prelude.{◌≡◌, ◌≤◌, length};
 ghost use Rattle.checks.specs.Checks.{check6};
-ghost use Rattle.serial.specs.Pairs.{number};
-ghost use Rattle.formats.specs.Layout.{each, check_fits};
-ghost use Rattle.formats.specs.declared.enhanced.Configuration.TheVariants.{Data12, Data16};
-ghost use Rattle.formats.specs.Enhanced.{enhanced, layout, shaped, content, ToldWithinTheFields, EachMessageHasItsList};
+ghost use Rattle.formats.specs.Layout.{check_fits};
+ghost use Rattle.formats.specs.Enhanced.{enhanced, layout, content, ToldWithinTheFields, EachMessageHasItsList};
 ghost use Rattle.formats.specs.EnhancedLaw.{enhanced_lawful};
+ghost use Rattle.std.proofs.Common.{refl};
 
-use crate::bits::number;
+use crate::layout::Position::{Bit2, Bit3};
+use crate::layout::{Layout, Position, byte, number};
 use checks::six::check6;
 use serial::format::SerialFormat;
 use serial::pair::Pair;
@@ -28,21 +28,110 @@ pub struct EnhancedMessage {
     pub data: u16,
 }
 
+// Bit 3 is set in the first six pairs and clear in the seventh, the thirteenth and the last.
+// The check stands in bit 2 of the first six, and covers of the others bit 2 and then bit 3.
+static LAYOUT: Layout<4, 6> = Layout {
+    size: Enhanced::L,
+    ones: &[Bit3(0), Bit3(1), Bit3(2), Bit3(3), Bit3(4), Bit3(5)],
+    zeros: &[Bit3(6), Bit3(12), Bit3(17)],
+    covered: [
+        [Bit2(6), Bit3(6), Bit2(7), Bit3(7), Bit2(8), Bit3(8)],
+        [Bit2(9), Bit3(9), Bit2(10), Bit3(10), Bit2(11), Bit3(11)],
+        [Bit2(12), Bit3(12), Bit2(13), Bit3(13), Bit2(14), Bit3(14)],
+        [Bit2(15), Bit3(15), Bit2(16), Bit3(16), Bit2(17), Bit3(17)],
+    ],
+    check_bits: [Bit2(0), Bit2(1), Bit2(2), Bit2(3), Bit2(4), Bit2(5)],
+};
+
+impl Configuration {
+    ghost use Rattle.formats.specs.Enhanced.{configuration_of, id_bits, data_bits};
+
+    // The bit that tells which of the two follows is set for data of sixteen bits.
+    fn of(wide: bool) -> Configuration
+        ensures { result ≡ configuration_of wide }
+    {
+        if wide {
+            Configuration::Data16
+        } else {
+            Configuration::Data12
+        }
+    }
+
+    fn id_bits(self) -> &'static [Position]
+        ensures value { result.now ≡ id_bits self }
+        ensures few { length result.now ≤ 8 }
+    {
+        match self {
+            Configuration::Data12 => &[
+                Bit3(8),
+                Bit3(9),
+                Bit3(10),
+                Bit3(11),
+                Bit3(13),
+                Bit3(14),
+                Bit3(15),
+                Bit3(16),
+            ],
+            Configuration::Data16 => &[Bit3(8), Bit3(9), Bit3(10), Bit3(11)],
+        }
+    }
+
+    fn data_bits(self) -> &'static [Position]
+        ensures value { result.now ≡ data_bits self }
+        ensures few { length result.now ≤ 16 }
+    {
+        match self {
+            Configuration::Data12 => &[
+                Bit2(6),
+                Bit2(7),
+                Bit2(8),
+                Bit2(9),
+                Bit2(10),
+                Bit2(11),
+                Bit2(12),
+                Bit2(13),
+                Bit2(14),
+                Bit2(15),
+                Bit2(16),
+                Bit2(17),
+            ],
+            Configuration::Data16 => &[
+                Bit3(13),
+                Bit3(14),
+                Bit3(15),
+                Bit3(16),
+                Bit2(6),
+                Bit2(7),
+                Bit2(8),
+                Bit2(9),
+                Bit2(10),
+                Bit2(11),
+                Bit2(12),
+                Bit2(13),
+                Bit2(14),
+                Bit2(15),
+                Bit2(16),
+                Bit2(17),
+            ],
+        }
+    }
+}
+
 impl SerialFormat for Enhanced {
     const L: usize = 18;
+
+    ghost L = { 18 };
 
     type Message = EnhancedMessage;
 
     ghost meaning = { enhanced };
 
+    ghost size = { refl };
+
     ghost lawful = { enhanced_lawful };
 
-    fn length() -> usize {
-        Self::L
-    }
-
     fn matches(pairs: &[Pair]) -> bool {
-        pairs.len() == Self::L && ones_stand(pairs) && zeros_stand(pairs)
+        LAYOUT.frames(pairs)
     }
 
     fn message(pairs: &[Pair]) -> Option<EnhancedMessage>
@@ -50,133 +139,25 @@ impl SerialFormat for Enhanced {
         ensures told_within_the_fields { ToldWithinTheFields }
         ensures each_message_has_its_list { EachMessageHasItsList }
     {
-        if Self::matches(pairs) && check_agrees(pairs) {
-            Some(read_content(pairs))
-        } else {
-            None
-        }
+        (Self::matches(pairs) && check_agrees(pairs)).then(|| read_content(pairs))
     }
-}
-
-// Whether bit 3 is set where each message has it set.
-fn ones_stand(pairs: &[Pair]) -> bool
-    requires { length pairs.now ≡ 18 }
-    ensures { result ≡ each true pairs.now layout.ones }
-{
-    pairs[0].high & pairs[1].high & pairs[2].high & pairs[3].high & pairs[4].high & pairs[5].high
-}
-
-// Whether bit 3 is clear where each message has it clear.
-fn zeros_stand(pairs: &[Pair]) -> bool
-    requires { length pairs.now ≡ 18 }
-    ensures { result ≡ each false pairs.now layout.zeros }
-{
-    !pairs[6].high & !pairs[12].high & !pairs[17].high
-}
-
-// Six bits that the check runs over: of each of three pairs bit 2 and then bit 3.
-fn group(a: Pair, b: Pair, c: Pair) -> u16
-    ensures value { result ≡ number (a.low ∷ a.high ∷ b.low ∷ b.high ∷ c.low ∷ c.high ∷ []) }
-    ensures small { result < 64 }
-{
-    number(&[a.low, a.high, b.low, b.high, c.low, c.high])
 }
 
 // Whether the check of what follows the first six pairs is the check sent in them.
 fn check_agrees(pairs: &[Pair]) -> bool
-    requires { length pairs.now ≡ 18 }
     ensures { result ≡ check_fits layout check6 pairs.now }
 {
-    let groups = [
-        group(pairs[6], pairs[7], pairs[8]) as u8,
-        group(pairs[9], pairs[10], pairs[11]) as u8,
-        group(pairs[12], pairs[13], pairs[14]) as u8,
-        group(pairs[15], pairs[16], pairs[17]) as u8,
-    ];
-    let sent = number(&[
-        pairs[0].low,
-        pairs[1].low,
-        pairs[2].low,
-        pairs[3].low,
-        pairs[4].low,
-        pairs[5].low,
-    ]);
-    u16::from(check6(&groups)) == sent
+    check6(&LAYOUT.groups(pairs)) == byte(pairs, &LAYOUT.check_bits)
 }
 
 // The message, if the list is lawful.
 fn read_content(pairs: &[Pair]) -> EnhancedMessage
-    requires { length pairs.now ≡ 18 }
     ensures { result ≡ content pairs.now }
 {
-    if pairs[7].high {
-        shape16(pairs)
-    } else {
-        shape12(pairs)
-    }
-}
-
-fn shape12(pairs: &[Pair]) -> EnhancedMessage
-    requires { length pairs.now ≡ 18 }
-    ensures { result ≡ shaped Data12 pairs.now }
-{
-    let id = number(&[
-        pairs[8].high,
-        pairs[9].high,
-        pairs[10].high,
-        pairs[11].high,
-        pairs[13].high,
-        pairs[14].high,
-        pairs[15].high,
-        pairs[16].high,
-    ]);
-    let data = number(&[
-        pairs[6].low,
-        pairs[7].low,
-        pairs[8].low,
-        pairs[9].low,
-        pairs[10].low,
-        pairs[11].low,
-        pairs[12].low,
-        pairs[13].low,
-        pairs[14].low,
-        pairs[15].low,
-        pairs[16].low,
-        pairs[17].low,
-    ]);
+    let configuration = Configuration::of(Bit3(7).read(pairs));
     EnhancedMessage {
-        configuration: Configuration::Data12,
-        id: id as u8,
-        data,
-    }
-}
-
-fn shape16(pairs: &[Pair]) -> EnhancedMessage
-    requires { length pairs.now ≡ 18 }
-    ensures { result ≡ shaped Data16 pairs.now }
-{
-    let id = number(&[pairs[8].high, pairs[9].high, pairs[10].high, pairs[11].high]);
-    let data = number(&[
-        pairs[13].high,
-        pairs[14].high,
-        pairs[15].high,
-        pairs[16].high,
-        pairs[6].low,
-        pairs[7].low,
-        pairs[8].low,
-        pairs[9].low,
-        pairs[10].low,
-        pairs[11].low,
-        pairs[12].low,
-        pairs[13].low,
-        pairs[14].low,
-        pairs[15].low,
-        pairs[16].low,
-        pairs[17].low,
-    ]);
-    EnhancedMessage {
-        configuration: Configuration::Data16,
-        id: id as u8,
-        data,
+        configuration,
+        id: byte(pairs, configuration.id_bits()),
+        data: number(pairs, configuration.data_bits()),
     }
 }

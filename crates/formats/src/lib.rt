@@ -1,6 +1,6 @@
 // The two serial formats: the short one and the enhanced one.
 #![tactic(auto)]
 
-mod bits;
 pub mod enhanced;
+pub mod layout;
 pub mod short;

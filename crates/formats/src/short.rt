@@ -1,11 +1,13 @@
 // The short serial format.
-ghost use Rattle.std.specs.Prelude.{◌≡◌, false, length};
+ghost use Rattle.std.specs.Prelude.{◌≡◌};
 ghost use Rattle.checks.specs.Checks.{check4};
-ghost use Rattle.formats.specs.Layout.{each, check_fits};
-ghost use Rattle.formats.specs.Short.{short, layout, content, ToldWithinTheFields, EachMessageHasItsList};
+ghost use Rattle.formats.specs.Layout.{check_fits};
+ghost use Rattle.formats.specs.Short.{short, layout, ToldWithinTheFields, EachMessageHasItsList};
 ghost use Rattle.formats.specs.ShortLaw.{short_lawful};
+ghost use Rattle.std.proofs.Common.{refl};
 
-use crate::bits::{none_high, number};
+use crate::layout::Position::{Bit2, Bit3};
+use crate::layout::{Layout, Position, byte};
 use checks::four::check4;
 use serial::format::SerialFormat;
 use serial::pair::Pair;
@@ -19,21 +21,63 @@ pub struct ShortMessage {
     pub data: u8,
 }
 
+// Only the first pair has bit 3 set. Bit 2 carries the id, then the data, then the check of both.
+static LAYOUT: Layout<3, 4> = Layout {
+    size: Short::L,
+    ones: &[Bit3(0)],
+    zeros: &[
+        Bit3(1),
+        Bit3(2),
+        Bit3(3),
+        Bit3(4),
+        Bit3(5),
+        Bit3(6),
+        Bit3(7),
+        Bit3(8),
+        Bit3(9),
+        Bit3(10),
+        Bit3(11),
+        Bit3(12),
+        Bit3(13),
+        Bit3(14),
+        Bit3(15),
+    ],
+    covered: [
+        [Bit2(0), Bit2(1), Bit2(2), Bit2(3)],
+        [Bit2(4), Bit2(5), Bit2(6), Bit2(7)],
+        [Bit2(8), Bit2(9), Bit2(10), Bit2(11)],
+    ],
+    check_bits: [Bit2(12), Bit2(13), Bit2(14), Bit2(15)],
+};
+
+static ID_BITS: [Position; 4] = [Bit2(0), Bit2(1), Bit2(2), Bit2(3)];
+
+static DATA_BITS: [Position; 8] = [
+    Bit2(4),
+    Bit2(5),
+    Bit2(6),
+    Bit2(7),
+    Bit2(8),
+    Bit2(9),
+    Bit2(10),
+    Bit2(11),
+];
+
 impl SerialFormat for Short {
     const L: usize = 16;
+
+    ghost L = { 16 };
 
     type Message = ShortMessage;
 
     ghost meaning = { short };
 
+    ghost size = { refl };
+
     ghost lawful = { short_lawful };
 
-    fn length() -> usize {
-        Self::L
-    }
-
     fn matches(pairs: &[Pair]) -> bool {
-        pairs.len() == Self::L && pairs[0].high && zeros_stand(pairs)
+        LAYOUT.frames(pairs)
     }
 
     fn message(pairs: &[Pair]) -> Option<ShortMessage>
@@ -41,52 +85,16 @@ impl SerialFormat for Short {
         ensures told_within_the_fields { ToldWithinTheFields }
         ensures each_message_has_its_list { EachMessageHasItsList }
     {
-        if Self::matches(pairs) && check_agrees(pairs) {
-            Some(read_content(pairs))
-        } else {
-            None
-        }
+        (Self::matches(pairs) && check_agrees(pairs)).then(|| ShortMessage {
+            id: byte(pairs, &ID_BITS),
+            data: byte(pairs, &DATA_BITS),
+        })
     }
-}
-
-// Whether bit 3 is clear in all pairs but the first.
-fn zeros_stand(pairs: &[Pair]) -> bool
-    requires { length pairs.now ≡ 16 }
-    ensures { result ≡ each false pairs.now layout.zeros }
-{
-    none_high(&pairs[1..16])
 }
 
 // Whether the check of id and data is the check sent with them.
 fn check_agrees(pairs: &[Pair]) -> bool
-    requires { length pairs.now ≡ 16 }
     ensures { result ≡ check_fits layout check4 pairs.now }
 {
-    let id = number(&[pairs[0].low, pairs[1].low, pairs[2].low, pairs[3].low]);
-    let upper = number(&[pairs[4].low, pairs[5].low, pairs[6].low, pairs[7].low]);
-    let lower = number(&[pairs[8].low, pairs[9].low, pairs[10].low, pairs[11].low]);
-    let sent = number(&[pairs[12].low, pairs[13].low, pairs[14].low, pairs[15].low]);
-    u16::from(check4(&[id as u8, upper as u8, lower as u8])) == sent
-}
-
-// The message, if the list is lawful.
-fn read_content(pairs: &[Pair]) -> ShortMessage
-    requires { length pairs.now ≡ 16 }
-    ensures { result ≡ content pairs.now }
-{
-    let id = number(&[pairs[0].low, pairs[1].low, pairs[2].low, pairs[3].low]);
-    let data = number(&[
-        pairs[4].low,
-        pairs[5].low,
-        pairs[6].low,
-        pairs[7].low,
-        pairs[8].low,
-        pairs[9].low,
-        pairs[10].low,
-        pairs[11].low,
-    ]);
-    ShortMessage {
-        id: id as u8,
-        data: data as u8,
-    }
+    check4(&LAYOUT.groups(pairs)) == byte(pairs, &LAYOUT.check_bits)
 }

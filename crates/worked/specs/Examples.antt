@@ -6,7 +6,7 @@ use Rattle.formats.specs.declared.short.ShortMessage.{ShortMessage}
 use Rattle.formats.specs.declared.enhanced.EnhancedMessage.{EnhancedMessage}
 use Rattle.formats.specs.declared.enhanced.Configuration.TheVariants.{Data12, Data16}
 use Rattle.pulses.specs.Intervals.{ticks}
-use Rattle.serial.specs.Pairs.{spelled}
+use Rattle.formats.specs.Positions.{spelled}
 use Rattle.formats.specs.Short as Short
 use Rattle.formats.specs.Enhanced as Enhanced
 
