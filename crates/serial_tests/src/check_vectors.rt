@@ -2,100 +2,34 @@
 use checks::four::{check4, table4};
 use checks::six::{check6, table6};
 
-#[derive(Clone, Copy)]
-struct FourVector {
-    nibbles: [u8; 6],
-    check: u8,
-}
-
-const FRAMES: [FourVector; 10] = [
-    FourVector {
-        nibbles: [0, 0, 0, 0, 0, 0],
-        check: 5,
-    },
-    FourVector {
-        nibbles: [7, 4, 8, 7, 4, 8],
-        check: 3,
-    },
-    FourVector {
-        nibbles: [5, 3, 14, 5, 3, 14],
-        check: 15,
-    },
-    FourVector {
-        nibbles: [4, 10, 12, 4, 10, 12],
-        check: 10,
-    },
-    FourVector {
-        nibbles: [7, 8, 15, 7, 8, 15],
-        check: 5,
-    },
-    FourVector {
-        nibbles: [9, 1, 13, 9, 1, 13],
-        check: 6,
-    },
-    FourVector {
-        nibbles: [10, 11, 12, 13, 14, 15],
-        check: 7,
-    },
-    FourVector {
-        nibbles: [15, 15, 15, 15, 15, 15],
-        check: 10,
-    },
-    FourVector {
-        nibbles: [1, 2, 3, 4, 5, 6],
-        check: 2,
-    },
-    FourVector {
-        nibbles: [15, 14, 13, 12, 11, 10],
-        check: 14,
-    },
+const FRAMES: [([u8; 6], u8); 10] = [
+    ([0, 0, 0, 0, 0, 0], 5),
+    ([7, 4, 8, 7, 4, 8], 3),
+    ([5, 3, 14, 5, 3, 14], 15),
+    ([4, 10, 12, 4, 10, 12], 10),
+    ([7, 8, 15, 7, 8, 15], 5),
+    ([9, 1, 13, 9, 1, 13], 6),
+    ([10, 11, 12, 13, 14, 15], 7),
+    ([15, 15, 15, 15, 15, 15], 10),
+    ([1, 2, 3, 4, 5, 6], 2),
+    ([15, 14, 13, 12, 11, 10], 14),
 ];
 
-#[derive(Clone, Copy)]
-struct SixVector {
-    groups: [u8; 4],
-    check: u8,
-}
-
-const MESSAGES: [SixVector; 8] = [
-    SixVector {
-        groups: [0, 0, 0, 0],
-        check: 38,
-    },
-    SixVector {
-        groups: [63, 63, 63, 63],
-        check: 2,
-    },
-    SixVector {
-        groups: [1, 2, 3, 4],
-        check: 23,
-    },
-    SixVector {
-        groups: [21, 21, 21, 21],
-        check: 13,
-    },
-    SixVector {
-        groups: [0, 0, 0, 1],
-        check: 63,
-    },
-    SixVector {
-        groups: [32, 0, 0, 0],
-        check: 48,
-    },
-    SixVector {
-        groups: [10, 20, 30, 40],
-        check: 26,
-    },
-    SixVector {
-        groups: [61, 7, 19, 54],
-        check: 9,
-    },
+const MESSAGES: [([u8; 4], u8); 8] = [
+    ([0, 0, 0, 0], 38),
+    ([63, 63, 63, 63], 2),
+    ([1, 2, 3, 4], 23),
+    ([21, 21, 21, 21], 13),
+    ([0, 0, 0, 1], 63),
+    ([32, 0, 0, 0], 48),
+    ([10, 20, 30, 40], 26),
+    ([61, 7, 19, 54], 9),
 ];
 
 #[test]
 fn data_of_frames(rt: HostRuntime) {
-    for vector in FRAMES.iter() {
-        assert_eq!(rt; check4(&vector.nibbles), vector.check);
+    for (nibbles, check) in FRAMES {
+        assert_eq!(rt; check4(&nibbles), check);
     }
 }
 
@@ -127,8 +61,8 @@ fn wide_groups_are_cut(rt: HostRuntime) {
 
 #[test]
 fn groups_of_messages(rt: HostRuntime) {
-    for vector in MESSAGES.iter() {
-        assert_eq!(rt; check6(&vector.groups), vector.check);
+    for (groups, check) in MESSAGES {
+        assert_eq!(rt; check6(&groups), check);
     }
 }
 

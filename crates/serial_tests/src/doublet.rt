@@ -1,4 +1,5 @@
 // A format of two pairs, whose framing takes lists that overlap: a window that tells of one that fails still has its pairs.
+ghost use Rattle.std.proofs.Common.{refl};
 ghost use Rattle.serial_tests.specs.Doublets.{doublet};
 ghost use Rattle.serial_tests.specs.DoubletLaw.{doublet_lawful};
 
@@ -11,25 +12,24 @@ pub struct Doublet;
 impl SerialFormat for Doublet {
     const L: usize = 2;
 
+    ghost L = { 2 };
+
     type Message = bool;
 
     ghost meaning = { doublet };
 
+    ghost size = { refl };
+
     ghost lawful = { doublet_lawful };
 
-    fn length() -> usize {
-        Self::L
-    }
-
     fn matches(pairs: &[Pair]) -> bool {
-        pairs.len() == Self::L && pairs[0].high
+        matches!(pairs, [first, _] if first.high)
     }
 
     fn message(pairs: &[Pair]) -> Option<bool> {
-        if pairs.len() == Self::L && pairs[0].high && !pairs[1].high {
-            Some(pairs[1].low)
-        } else {
-            None
+        match pairs {
+            [first, second] if first.high && !second.high => Some(second.low),
+            _ => None,
         }
     }
 }

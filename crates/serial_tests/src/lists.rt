@@ -1,44 +1,48 @@
-// Lists of pairs for the tests.
+// Lists of pairs for the tests, and what is tested of every format.
+use serial::format::SerialFormat;
 use serial::pair::Pair;
+use std::array;
+use std::process::Abort;
 
 // Eighteen pairs, whose bit 3 and whose bit 2 make two numbers, highest first.
 pub fn pairs(high: u32, low: u32) -> [Pair; 18] {
-    let mut list = [Pair {
-        high: false,
-        low: false,
-    }; 18];
-    for k in 0..18usize {
+    array::from_fn(|k| {
         let bit = 1u32 << (17 - k);
-        list[k] = Pair {
+        Pair {
             high: high & bit != 0,
             low: low & bit != 0,
-        };
-    }
-    list
+        }
+    })
 }
 
-// The list with bit 3 of one pair changed.
-pub fn high_changed(list: [Pair; 18], at: usize) -> [Pair; 18] {
-    let mut changed = list;
-    if at < 18 {
-        changed[at] = Pair {
-            high: !list[at].high,
-            low: list[at].low,
-        };
+// One changed bit 2 keeps the framing, and the check finds it.
+pub fn damaged_bits<F: SerialFormat>(rt: &impl Abort, list: &[Pair; 18]) {
+    for k in 0..F::L {
+        let mut damaged = *list;
+        damaged[k].low = !list[k].low;
+        assert!(rt; F::matches(&damaged[0..F::L]));
+        assert!(rt; F::message(&damaged[0..F::L]).is_none());
     }
-    changed
 }
 
-// The list with bit 2 of one pair changed.
-pub fn low_changed(list: [Pair; 18], at: usize) -> [Pair; 18] {
-    let mut changed = list;
-    if at < 18 {
-        changed[at] = Pair {
-            high: list[at].high,
-            low: !list[at].low,
-        };
+// One changed bit 3 breaks the framing if it is one of these, and else the check finds it.
+pub fn damaged_framing<F: SerialFormat>(rt: &impl Abort, list: &[Pair; 18], framing: &[usize]) {
+    for k in 0..F::L {
+        let mut damaged = *list;
+        damaged[k].high = !list[k].high;
+        assert_eq!(rt; F::matches(&damaged[0..F::L]), !framing.contains(&k));
+        assert!(rt; F::message(&damaged[0..F::L]).is_none());
     }
-    changed
+}
+
+// Lists of other lengths do not match.
+pub fn other_lengths<F: SerialFormat>(rt: &impl Abort, list: &[Pair; 18]) {
+    for n in 0..19usize {
+        if n != F::L {
+            assert!(rt; !F::matches(&list[0..n]));
+            assert!(rt; F::message(&list[0..n]).is_none());
+        }
+    }
 }
 
 // Of a status bit 3 and bit 2 count, and nothing else.

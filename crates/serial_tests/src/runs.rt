@@ -1,6 +1,6 @@
 // Windows over runs of frames.
 use crate::doublet::Doublet;
-use crate::lists::{low_changed, pairs};
+use crate::lists::pairs;
 use formats::enhanced::{Configuration, Enhanced, EnhancedMessage};
 use formats::short::{Short, ShortMessage};
 use model::fault::{Fault, FaultKind};
@@ -8,6 +8,7 @@ use serial::format::SerialFormat;
 use serial::pair::Pair;
 use serial::report::SerialReport;
 use serial::window::Window;
+use std::fmt::Debug;
 use std::process::Abort;
 
 // Every frame has its place, and ends at an event this much later.
@@ -19,16 +20,27 @@ fn last_said<F: SerialFormat>(
     rt: &impl Abort,
     window: &mut Window<F>,
     list: &[Pair],
-    from: u16,
+    from: u32,
 ) -> Option<SerialReport<F::Message>> {
     let mut said = None;
-    let mut place = u32::from(from);
-    for pair in list {
+    for (place, pair) in (from..u32::MAX).zip(list) {
         assert!(rt; said.is_none());
         said = window.take(*pair, place, place.wrapping_add(LATER));
-        place = place.wrapping_add(1);
     }
     said
+}
+
+// Far more messages in a row than the window has room for.
+fn messages_in_a_row<F: SerialFormat>(rt: &impl Abort, list: &[Pair], message: F::Message)
+where
+    F::Message: PartialEq + Debug,
+{
+    let mut window: Window<F> = Window::new();
+    for k in 0..40u32 {
+        let place = k.wrapping_mul(F::L as u32);
+        let said = last_said(rt, &mut window, list, place);
+        assert_eq!(rt; said, Some(SerialReport::Told { place, message }));
+    }
 }
 
 const SHORT: ShortMessage = ShortMessage { id: 3, data: 0x5a };
@@ -39,37 +51,15 @@ const WIDE: EnhancedMessage = EnhancedMessage {
     data: 0xa3c1,
 };
 
-// Far more messages in a row than the window has room for.
 #[test]
 fn short_messages_in_a_row(rt: HostRuntime) {
-    let mut window: Window<Short> = Window::new();
     let list = pairs(0x8000 * 4, 0x35ac * 4);
-    for k in 0..40u16 {
-        let said = last_said(&rt, &mut window, &list[0..16], k * 16);
-        assert_eq!(rt;
-            said,
-            Some(SerialReport::Told {
-                place: u32::from(k) * 16,
-                message: SHORT,
-            })
-        );
-    }
+    messages_in_a_row::<Short>(&rt, &list[0..16], SHORT);
 }
 
 #[test]
 fn enhanced_messages_in_a_row(rt: HostRuntime) {
-    let mut window: Window<Enhanced> = Window::new();
-    let list = pairs(0x3f554, 0x343c1);
-    for k in 0..40u16 {
-        let said = last_said(&rt, &mut window, &list, k * 18);
-        assert_eq!(rt;
-            said,
-            Some(SerialReport::Told {
-                place: u32::from(k) * 18,
-                message: WIDE,
-            })
-        );
-    }
+    messages_in_a_row::<Enhanced>(&rt, &pairs(0x3f554, 0x343c1), WIDE);
 }
 
 // A run that begins inside a message tells the next one.
@@ -92,7 +82,8 @@ fn message_after_a_late_start(rt: HostRuntime) {
 fn fault_and_then_a_message(rt: HostRuntime) {
     let mut window: Window<Short> = Window::new();
     let list = pairs(0x8000 * 4, 0x35ac * 4);
-    let damaged = low_changed(list, 6);
+    let mut damaged = list;
+    damaged[6].low = !list[6].low;
     let fault = Fault {
         kind: FaultKind::SerialCheck,
         place: 15 + LATER,
