@@ -1,34 +1,53 @@
 -- What the code's unit stands for.
-use Rattle.std.specs.Prelude.{◌≡◌, ℕ, List, Ok, Err, Result}
+use Rattle.std.specs.Prelude.{ℕ, List, Ok, Err, Result}
+use Rattle.model.specs.declared.settings.Settings.{Settings}
 use Rattle.model.specs.declared.event.Event.{Event}
+use Rattle.model.specs.declared.side.Side.{Side}
 use Rattle.model.specs.declared.side.Side.TheVariants.{A as SideA, B as SideB}
 use Rattle.serial.specs.Format.{Format}
 use Rattle.receiver.specs.declared.answer.Step.{Step}
 use Rattle.receiver.specs.declared.answer.StepRefusal.{StepRefusal}
 use Rattle.receiver.specs.declared.answer.StepRefusal.TheVariants.{NoEvent}
+use Rattle.receiver.specs.declared.answer.Call.{Call}
 use Rattle.receiver.specs.declared.answer.Answer.{Answer}
 use Rattle.receiver.specs.declared.answer.Answer.TheVariants.{Stepped, Refused}
 use Rattle.receiver.specs.declared.answer.Closing.{Closing}
-use Rattle.receiver.specs.declared.unit.Receiver.{Receiver}
+use Rattle.receiver.specs.declared.channel.Channel.{Channel}
 use Rattle.receiver.specs.Standing.{state_of, settings_of, ruled}
-use Rattle.receiver.specs.Units.{Setup, setup, UnitState, channel, figures}
+use Rattle.receiver.specs.Units.{Setup, setup, UnitState, channel, new, answer, after, figures}
 
 abbrev pub refusal_number : StepRefusal → ℕ
 refusal_number NoEvent = 7
 
--- the unit that is meant, where the sources mean these lists
-abbrev pub unit_of : {P Q F G : Type 0} → (P → List Event) → (Q → List Event) → Receiver P Q F G → UnitState
-unit_of from_a from_b u =
+-- a unit as it stands: how each channel is set up, and the unit's state
+pub record Standing : Type 0 where
+  pub settings_a : Settings
+  pub settings_b : Settings
+  pub state : UnitState
+
+-- the unit that is meant by what is left of each list, and by both channels
+abbrev pub standing_of : {F G : Type 0} → List Event → List Event → Channel F → Channel G → Standing
+standing_of xs ys a b =
     record {
-      left_a = from_a u.source_a;
-      left_b = from_b u.source_b;
-      channel_a = state_of u.channel_a;
-      channel_b = state_of u.channel_b;
+      settings_a = settings_of a;
+      settings_b = settings_of b;
+      state = record { left_a = xs; left_b = ys; channel_a = state_of a; channel_b = state_of b };
     }
 
+-- a new unit of these lists, set up so
+abbrev pub standing_new : Settings → Settings → (Side → List Event) → Standing
+standing_new a b from = record { settings_a = a; settings_b = b; state = new from }
+
 -- how it is set up, where the formats mean this
-abbrev pub setup_of : {P Q F G X Y : Type 0} → Format X → Format Y → Receiver P Q F G → Setup X Y
-setup_of f g u = setup (ruled (settings_of u.channel_a) f) (ruled (settings_of u.channel_b) g)
+abbrev pub setup_of : {X Y : Type 0} → Format X → Format Y → Standing → Setup X Y
+setup_of f g u = setup (ruled u.settings_a f) (ruled u.settings_b g)
+
+-- its answer to a call, and the unit after it: both channels go on under the same settings
+abbrev pub answer_of : {X Y : Type 0} → Format X → Format Y → Standing → Call → Answer X Y
+answer_of f g u c = answer (setup_of f g u) u.state c
+
+abbrev pub left_by : {X Y : Type 0} → Format X → Format Y → Standing → Call → Standing
+left_by f g u c = record { settings_a = u.settings_a; settings_b = u.settings_b; state = after (setup_of f g u) u.state c }
 
 -- the answer that the result of a step is
 abbrev pub answered : {X Y : Type 0} → Result (Step X Y) StepRefusal → Answer X Y
@@ -38,8 +57,3 @@ answered (Err e) = Refused e
 -- the figures of both channels
 abbrev pub closed : UnitState → Closing
 closed u = record { a = figures (channel u SideA); b = figures (channel u SideB) }
-
--- both channels go on under the same settings
-abbrev pub SettingsStay : {P Q F G : Type 0} → Receiver P Q F G → Receiver P Q F G → Type 0
-SettingsStay u v =
-    (settings_of v.channel_a ≡ settings_of u.channel_a) × (settings_of v.channel_b ≡ settings_of u.channel_b)

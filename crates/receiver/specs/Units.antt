@@ -1,5 +1,5 @@
 -- The unit: two lists of events and two channels; the answers to a list of calls, and the unit after them.
-use Rattle.std.specs.Prelude.{ℕ, cond, List, [], ◌∷◌, Some, None, Option, nat_lt}
+use Rattle.std.specs.Prelude.{◌≡◌, ℕ, cond, List, [], ◌∷◌, Some, None, Option, nat_lt}
 use Rattle.model.specs.declared.event.Event.{Event}
 use Rattle.model.specs.declared.side.Side.{Side}
 use Rattle.model.specs.declared.side.Side.TheVariants.{A as SideA, B as SideB}
@@ -63,6 +63,11 @@ due (e ∷ es) (f ∷ fs) = cond (nat_lt (time_of f) (time_of e)) (Some SideB) (
 abbrev pub stepped : {X Y : Type 0} (d : Side) → ℕ → Reports (Messages X Y d) → Answer X Y
 stepped SideA t r = Stepped (StepA t r)
 stepped SideB t r = Stepped (StepB t r)
+
+-- a channel that is given the first event of a list tells the event's time, and what it reports
+abbrev pub TellsFirst : {M : Type 0} → Rules M → ChannelState → List Event → ℕ → Reports M → Type 0
+TellsFirst rules c [] t r = ⊥
+TellsFirst rules c (e ∷ es) t r = (t ≡ time_of e) × (r ≡ reports rules c e)
 
 -- a side that is given the first event of its list
 abbrev pub answer_at : {X Y : Type 0} → Setup X Y → (d : Side) → ChannelState → List Event → Answer X Y

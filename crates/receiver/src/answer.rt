@@ -12,18 +12,19 @@ pub struct Reports<M> {
     pub serial: Option<SerialReport<M>>,
 }
 
-// A step of the unit: the channel that was given an event, the event's time, and what the channel reported.
+// A step of the unit: the channel that was given an event, the event's time, and what the channel reported. The messages of the two
+// channels are of two types.
 #[derive(Clone, Copy)]
 pub enum Step<X, Y> {
     A { time: u64, reports: Reports<X> },
     B { time: u64, reports: Reports<Y> },
 }
 
-// Why a unit is not stepped.
+// Why a unit is not stepped, under the number that tells it.
 #[derive(Clone, Copy, PartialEq, Eq, Debug)]
 pub enum StepRefusal {
     // neither source has an event left
-    NoEvent,
+    NoEvent = 7,
 }
 
 // What can be looked at without a step.
@@ -39,6 +40,7 @@ pub enum Call {
     Look(Subject),
 }
 
+// The answer to a call. A step's refusal is a case of its own, so that one match tells all answers of a run apart.
 #[derive(Clone, Copy)]
 pub enum Answer<X, Y> {
     Stepped(Step<X, Y>),

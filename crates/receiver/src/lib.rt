@@ -3,4 +3,5 @@
 
 pub mod answer;
 pub mod channel;
+pub mod fed;
 pub mod unit;

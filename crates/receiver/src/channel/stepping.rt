@@ -48,51 +48,34 @@ impl<F: SerialFormat> Channel<F> {
 
     // What the channel reports at an event, and what it is then. An event of a time beyond the limit is refused and changes nothing.
     pub fn step(&mut self, event: Event) -> Result<Reports<F::Message>, StepRefusal>
-        ensures answer { MatchResult result (λ o. (time_of event < 2 ^ 40) × (o ≡ reports (ruled (settings_of self.old) F.SerialFormat.meaning) (state_of self.old) event) × (state_of self.new ≡ given (ruled (settings_of self.old) F.SerialFormat.meaning) (state_of self.old) event)) (λ e. (2 ^ 40 ≤ time_of event) × (e ≡ Late) × (state_of self.new ≡ state_of self.old)) }
+        ensures answer { MatchResult result (λ o. (time_of event < 2 ^ 40) × (o ≡ reports (ruled (settings_of self.old) F.meaning) (state_of self.old) event) × (state_of self.new ≡ given (ruled (settings_of self.old) F.meaning) (state_of self.old) event)) (λ e. (2 ^ 40 ≤ time_of event) × (e ≡ Late) × (state_of self.new ≡ state_of self.old)) }
         ensures nibbles_below_sixteen { IfOk result (λ o. Proper o.pulse) }
         ensures settings_stay { settings_of self.new ≡ settings_of self.old }
     {
-        match self.decoder.step(event) {
-            Err(why) => Err(why),
-            Ok(Outcome::Quiet) => Ok(Reports {
-                pulse: Outcome::Quiet,
-                serial: None,
-            }),
-            Ok(Outcome::Skipped) => Ok(Reports {
-                pulse: Outcome::Skipped,
-                serial: None,
-            }),
-            Ok(Outcome::Framed(row)) => {
+        let pulse = self.decoder.step(event)?;
+        let serial = match pulse {
+            Outcome::Quiet | Outcome::Skipped => None,
+            Outcome::Framed(row) => {
                 self.latest = Some(row);
                 self.frames = self.frames.saturating_add(1);
-                let serial = self
-                    .window
-                    .take(Pair::of_status(row.status), row.place, event.place());
-                Ok(Reports {
-                    pulse: Outcome::Framed(row),
-                    serial,
-                })
+                self.window
+                    .take(Pair::of_status(row.status), row.place, event.place())
             }
-            Ok(Outcome::Failed(fault)) => {
+            Outcome::Failed(_) => {
                 self.latest = None;
                 self.faults = self.faults.saturating_add(1);
                 self.window.empty();
-                Ok(Reports {
-                    pulse: Outcome::Failed(fault),
-                    serial: None,
-                })
+                None
             }
-        }
+        };
+        Ok(Reports { pulse, serial })
     }
 
     // The reading of the latest frame, if no fault of the pulses came after it.
     pub(crate) fn reading(&self) -> Option<u16>
         ensures { result ≡ reading_of (settings_of self.now) (state_of self.now).latest }
     {
-        match self.latest {
-            None => None,
-            Some(row) => Some(reading(self.decoder.settings(), row)),
-        }
+        self.latest.map(|row| reading(self.decoder.settings(), row))
     }
 
     // How many frames and faults of the pulses the channel has given.

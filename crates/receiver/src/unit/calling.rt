@@ -1,16 +1,13 @@
-ghost use Rattle.std.specs.Prelude.{◌≡◌, Some};
-ghost use Rattle.model.specs.declared.side.Side.TheVariants.{A as SideA, B as SideB};
+ghost use Rattle.std.specs.Prelude.{◌≡◌};
 ghost use Rattle.receiver.specs.declared.answer.Call.TheVariants.{Step as StepCall, Look};
 ghost use Rattle.receiver.specs.declared.answer.Answer.TheVariants.{Reading as ReadingAnswer};
-ghost use Rattle.receiver.specs.Standing.{settings_of};
-ghost use Rattle.receiver.specs.Units.{lists, new, due, answer, after};
-ghost use Rattle.receiver.specs.Receiving.{unit_of, setup_of, answered, closed, refusal_number, SettingsStay};
+ghost use Rattle.receiver.specs.Units.{lists, due};
+ghost use Rattle.receiver.specs.Receiving.{standing_new, answer_of, left_by, answered, closed, refusal_number};
 ghost use Rattle.receiver.specs.declared.answer.Subject.TheVariants.{Reading as ReadingOf};
 
 use super::Receiver;
 use crate::answer::{Answer, Call, Closing, Step, StepRefusal, Subject};
-use crate::channel::Channel;
-use model::settings::Settings;
+use crate::fed::{FedChannel, Feed};
 use model::side::Side;
 use model::source::EdgeSource;
 use serial::format::SerialFormat;
@@ -19,117 +16,67 @@ impl StepRefusal {
     pub fn number(self) -> u16
         ensures { result ≡ refusal_number self }
     {
-        match self {
-            StepRefusal::NoEvent => 7,
-        }
+        self as u16
     }
 }
 
 impl<SA: EdgeSource, SB: EdgeSource, FA: SerialFormat, FB: SerialFormat> Receiver<SA, SB, FA, FB> {
     // A unit of two sources, with newly prepared channels.
-    pub fn new(
-        source_a: SA,
-        source_b: SB,
-        settings_a: Settings,
-        settings_b: Settings,
-    ) -> Receiver<SA, SB, FA, FB>
-        ensures new { unit_of SA.EdgeSource.events SB.EdgeSource.events result ≡ new (lists (SA.EdgeSource.events source_a) (SB.EdgeSource.events source_b)) }
-        ensures settings_kept { (settings_of result.channel_a ≡ settings_a) × (settings_of result.channel_b ≡ settings_b) }
+    pub fn new(a: Feed<SA>, b: Feed<SB>) -> Receiver<SA, SB, FA, FB>
+        ensures new { result ≡ standing_new a.settings b.settings (lists (SA.events a.source) (SB.events b.source)) }
     {
         Receiver {
-            source_a,
-            source_b,
-            channel_a: Channel::prepare(settings_a),
-            channel_b: Channel::prepare(settings_b),
+            a: FedChannel::new(a),
+            b: FedChannel::new(b),
         }
     }
 
     // The channel whose event is next.
     fn next_side(&self) -> Option<Side>
-        ensures { result ≡ due (SA.EdgeSource.events self.now.source_a) (SB.EdgeSource.events self.now.source_b) }
+        ensures { result ≡ due self.now.state.left_a self.now.state.left_b }
     {
-        match (self.source_a.look(), self.source_b.look()) {
-            (None, None) => None,
-            (Some(_), None) => Some(Side::A),
+        match (self.a.source.look(), self.b.source.look()) {
+            (Some(a), Some(b)) if b.time() < a.time() => Some(Side::B),
+            (Some(_), _) => Some(Side::A),
             (None, Some(_)) => Some(Side::B),
-            (Some(a), Some(b)) => {
-                if b.time() < a.time() {
-                    Some(Side::B)
-                } else {
-                    Some(Side::A)
-                }
-            }
-        }
-    }
-
-    // Channel A is given the first event of its source.
-    fn step_a(&mut self) -> Result<Step<FA::Message, FB::Message>, StepRefusal>
-        requires { due (SA.EdgeSource.events self.old.source_a) (SB.EdgeSource.events self.old.source_b) ≡ Some SideA }
-        ensures answer { answered result ≡ answer (setup_of FA.SerialFormat.meaning FB.SerialFormat.meaning self.old) (unit_of SA.EdgeSource.events SB.EdgeSource.events self.old) StepCall }
-        ensures left { unit_of SA.EdgeSource.events SB.EdgeSource.events self.new ≡ after (setup_of FA.SerialFormat.meaning FB.SerialFormat.meaning self.old) (unit_of SA.EdgeSource.events SB.EdgeSource.events self.old) StepCall }
-        ensures settings_stay { SettingsStay self.old self.new }
-    {
-        let Some(event) = self.source_a.take() else {
-            return Err(StepRefusal::NoEvent);
-        };
-        match self.channel_a.step(event) {
-            Ok(reports) => Ok(Step::A {
-                time: event.time(),
-                reports,
-            }),
-            Err(_) => unreachable(),
-        }
-    }
-
-    // Channel B is given the first event of its source.
-    fn step_b(&mut self) -> Result<Step<FA::Message, FB::Message>, StepRefusal>
-        requires { due (SA.EdgeSource.events self.old.source_a) (SB.EdgeSource.events self.old.source_b) ≡ Some SideB }
-        ensures answer { answered result ≡ answer (setup_of FA.SerialFormat.meaning FB.SerialFormat.meaning self.old) (unit_of SA.EdgeSource.events SB.EdgeSource.events self.old) StepCall }
-        ensures left { unit_of SA.EdgeSource.events SB.EdgeSource.events self.new ≡ after (setup_of FA.SerialFormat.meaning FB.SerialFormat.meaning self.old) (unit_of SA.EdgeSource.events SB.EdgeSource.events self.old) StepCall }
-        ensures settings_stay { SettingsStay self.old self.new }
-    {
-        let Some(event) = self.source_b.take() else {
-            return Err(StepRefusal::NoEvent);
-        };
-        match self.channel_b.step(event) {
-            Ok(reports) => Ok(Step::B {
-                time: event.time(),
-                reports,
-            }),
-            Err(_) => unreachable(),
+            (None, None) => None,
         }
     }
 
     // The event of the smaller time, channel A's where both are equal, is taken and given to its channel.
     pub fn step(&mut self) -> Result<Step<FA::Message, FB::Message>, StepRefusal>
-        ensures answer { answered result ≡ answer (setup_of FA.SerialFormat.meaning FB.SerialFormat.meaning self.old) (unit_of SA.EdgeSource.events SB.EdgeSource.events self.old) StepCall }
-        ensures left { unit_of SA.EdgeSource.events SB.EdgeSource.events self.new ≡ after (setup_of FA.SerialFormat.meaning FB.SerialFormat.meaning self.old) (unit_of SA.EdgeSource.events SB.EdgeSource.events self.old) StepCall }
-        ensures settings_stay { SettingsStay self.old self.new }
+        ensures answer { answered result ≡ answer_of FA.meaning FB.meaning self.old StepCall }
+        ensures left { self.new ≡ left_by FA.meaning FB.meaning self.old StepCall }
     {
-        match self.next_side() {
-            None => Err(StepRefusal::NoEvent),
-            Some(Side::A) => self.step_a(),
-            Some(Side::B) => self.step_b(),
+        match self.next_side().ok_or(StepRefusal::NoEvent)? {
+            Side::A => {
+                let (time, reports) = self.a.step()?;
+                Ok(Step::A { time, reports })
+            }
+            Side::B => {
+                let (time, reports) = self.b.step()?;
+                Ok(Step::B { time, reports })
+            }
         }
     }
 
     // The reading of a channel.
     pub fn reading(&self, side: Side) -> Option<u16>
-        ensures { ReadingAnswer result ≡ answer (setup_of FA.SerialFormat.meaning FB.SerialFormat.meaning self.now) (unit_of SA.EdgeSource.events SB.EdgeSource.events self.now) (Look (ReadingOf side)) }
+        ensures { ReadingAnswer result ≡ answer_of FA.meaning FB.meaning self.now (Look (ReadingOf side)) }
     {
         match side {
-            Side::A => self.channel_a.reading(),
-            Side::B => self.channel_b.reading(),
+            Side::A => self.a.channel.reading(),
+            Side::B => self.b.channel.reading(),
         }
     }
 
     // The answer to a call.
     pub fn call(&mut self, call: Call) -> Answer<FA::Message, FB::Message>
-        ensures answer { result ≡ answer (setup_of FA.SerialFormat.meaning FB.SerialFormat.meaning self.old) (unit_of SA.EdgeSource.events SB.EdgeSource.events self.old) call }
-        ensures left { unit_of SA.EdgeSource.events SB.EdgeSource.events self.new ≡ after (setup_of FA.SerialFormat.meaning FB.SerialFormat.meaning self.old) (unit_of SA.EdgeSource.events SB.EdgeSource.events self.old) call }
-        ensures settings_stay { SettingsStay self.old self.new }
+        ensures answer { result ≡ answer_of FA.meaning FB.meaning self.old call }
+        ensures left { self.new ≡ left_by FA.meaning FB.meaning self.old call }
     {
         match call {
+            // tried: no proof is made of `map_or_else`, since a refusal does not name the messages of an answer
             Call::Step => match self.step() {
                 Ok(step) => Answer::Stepped(step),
                 Err(why) => Answer::Refused(why),
@@ -143,17 +90,12 @@ impl<SA: EdgeSource, SB: EdgeSource, FA: SerialFormat, FB: SerialFormat> Receive
     where
         SA: Drop,
         SB: Drop,
-        ensures { result ≡ closed (unit_of SA.EdgeSource.events SB.EdgeSource.events self) }
+        ensures { result ≡ closed self.state }
     {
-        let Receiver {
-            source_a: _,
-            source_b: _,
-            channel_a,
-            channel_b,
-        } = self;
+        let Receiver { a, b } = self;
         Closing {
-            a: channel_a.figures(),
-            b: channel_b.figures(),
+            a: a.close(),
+            b: b.close(),
         }
     }
 }
