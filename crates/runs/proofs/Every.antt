@@ -10,7 +10,6 @@ use Rattle.receiver.specs.Channels.{Rules}
 use Rattle.receiver.specs.Units.{setup, lists, new, answers}
 use Rattle.runs.specs.Law.{LawfulRun, AnsweredInTurn}
 use Rattle.receiver.specs.declared.answer.Answer.{Answer}
-use Rattle.runs.specs.declared.run.RunRefusal.{RunRefusal}
 use Rattle.runs.proofs.Lawful.{lawful_run, answered_in_turn}
 use Rattle.runs.proofs.Whole.{messages_whole}
 
@@ -29,8 +28,8 @@ every_run_lawful {X} {Y} a b xs ys fa fb la lb calls =
     lawful SideB = lb
 
 -- the answers of a run that was made are lawful
-pub made_run_lawful : {X Y : Type 0} {Z : Type 0} (a : Rules X) (b : Rules Y) (xs ys : List Event)
-    → LawfulFormat a.format → LawfulFormat b.format → Lawful xs → Lawful ys → (calls : List Call) (got : List (Answer X Y)) (r : Result Z RunRefusal) (Q : RunRefusal → Type 0)
+pub made_run_lawful : {X Y Z E : Type 0} (a : Rules X) (b : Rules Y) (xs ys : List Event)
+    → LawfulFormat a.format → LawfulFormat b.format → Lawful xs → Lawful ys → (calls : List Call) (got : List (Answer X Y)) (r : Result Z E) (Q : E → Type 0)
     → MatchResult r (λ _. got ≡ answers (setup a b) (new (lists xs ys)) calls) Q
     → IfOk r (λ _. LawfulRun (setup a b) (lists xs ys) calls got)
 made_run_lawful a b xs ys fa fb la lb calls got (Ok z) Q e =
@@ -38,7 +37,7 @@ made_run_lawful a b xs ys fa fb la lb calls got (Ok z) Q e =
 made_run_lawful a b xs ys fa fb la lb calls got (Err w) Q e = tt
 
 -- and in turn
-pub made_run_in_turn : {X Y : Type 0} {Z : Type 0} (a : Rules X) (b : Rules Y) (xs ys : List Event) (calls : List Call) (got : List (Answer X Y)) (r : Result Z RunRefusal) (Q : RunRefusal → Type 0)
+pub made_run_in_turn : {X Y Z E : Type 0} (a : Rules X) (b : Rules Y) (xs ys : List Event) (calls : List Call) (got : List (Answer X Y)) (r : Result Z E) (Q : E → Type 0)
     → MatchResult r (λ _. got ≡ answers (setup a b) (new (lists xs ys)) calls) Q
     → IfOk r (λ _. AnsweredInTurn (setup a b) (lists xs ys) calls got)
 made_run_in_turn a b xs ys calls got (Ok z) Q e =

@@ -1,3 +1,4 @@
 pub mod Traces
 pub mod Law
 pub mod Instances
+pub mod Running
