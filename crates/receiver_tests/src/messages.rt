@@ -3,6 +3,7 @@ use formats::enhanced::{Configuration, Enhanced, EnhancedMessage};
 use formats::short::{Short, ShortMessage};
 use model::settings::Settings;
 use receiver::answer::Step;
+use receiver::fed::Feed;
 use receiver::unit::Receiver;
 use serial::report::SerialReport;
 use std::alloc::{AllocError, Global};
@@ -18,9 +19,8 @@ fn log_of(heap: Global, bits: (u32, u32), count: u32) -> Result<Vec<u8>, AllocEr
     let mut bytes = Vec::new(heap);
     let mut time: u64 = 0;
     push_edge(&mut bytes, time)?;
-    for i in 0..count {
-        let shift = (count - 1 - i) % 32;
-        let status = (bits.0 >> shift) % 2 * 8 + (bits.1 >> shift) % 2 * 4;
+    for bit in (0..count).rev() {
+        let status = (bits.0 >> (bit % 32)) % 2 * 8 + (bits.1 >> (bit % 32)) % 2 * 4;
         for long in [560, 120 + 10 * u64::from(status), 160, 160] {
             time = time.wrapping_add(long);
             push_edge(&mut bytes, time)?;
@@ -35,30 +35,35 @@ fn push_edge(bytes: &mut Vec<u8>, time: u64) -> Result<(), AllocError> {
     bytes.extend_from_slice(&[a, b, c, d, e, f])
 }
 
+// The message that a report tells, with the place of its first frame.
+fn told<M: Copy>(serial: Option<SerialReport<M>>) -> Option<(u32, M)> {
+    match serial? {
+        SerialReport::Told { place, message } => Some((place, message)),
+        SerialReport::Failed { .. } => None,
+    }
+}
+
 #[test]
 fn messages_of_both_formats(rt: HostRuntime) -> Result<(), Fail> {
     let settings = Settings::new(560, 1)?;
     let bytes_a = log_of(rt.alloc(), SHORT, 16)?;
     let bytes_b = log_of(rt.alloc(), ENHANCED, 18)?;
-    let a = AbsoluteLog::open(&bytes_a);
-    let b = AbsoluteLog::open(&bytes_b);
     let mut unit: Receiver<AbsoluteLog, AbsoluteLog, Short, Enhanced> = Receiver::new(
-        a, b, settings, settings,
+        Feed {
+            source: AbsoluteLog::open(&bytes_a),
+            settings,
+        },
+        Feed {
+            source: AbsoluteLog::open(&bytes_b),
+            settings,
+        },
     );
     let mut short = None;
     let mut enhanced = None;
     for _ in 0..200 {
         match unit.step() {
-            Ok(Step::A { reports, .. }) => {
-                if let Some(SerialReport::Told { place, message }) = reports.serial {
-                    short = Some((place, message));
-                }
-            }
-            Ok(Step::B { reports, .. }) => {
-                if let Some(SerialReport::Told { place, message }) = reports.serial {
-                    enhanced = Some((place, message));
-                }
-            }
+            Ok(Step::A { reports, .. }) => short = told(reports.serial).or(short),
+            Ok(Step::B { reports, .. }) => enhanced = told(reports.serial).or(enhanced),
             Err(_) => break,
         }
     }

@@ -5,10 +5,24 @@ use formats::short::{Short, ShortMessage};
 use model::settings::Settings;
 use model::side::Side;
 use receiver::answer::{Answer, Call, Step, Subject};
-use runs::run::{AfterRun, run};
+use receiver::fed::Feed;
+use runs::run::run;
 use std::test::Fail;
 
-const COUNTER: [u8; 20] = *b"SC\x00\x00SC\x02\x30SC\x02\xa8SC\x03\x48SC\x03\xe8";
+const COUNTER: &[u8] = b"SC\x00\x00SC\x02\x30SC\x02\xa8SC\x03\x48SC\x03\xe8";
+
+// The capture, and an empty log.
+fn feeds(settings: Settings) -> (Feed<CounterCapture<'static>>, Feed<AbsoluteLog<'static>>) {
+    let a = Feed {
+        source: CounterCapture::open(COUNTER),
+        settings,
+    };
+    let b = Feed {
+        source: AbsoluteLog::open(b""),
+        settings,
+    };
+    (a, b)
+}
 
 // A letter for each answer: of a step its channel, of a refusal R, and of a reading 4, a hyphen for none, or another.
 fn letter(answer: Answer<ShortMessage, EnhancedMessage>) -> char {
@@ -32,14 +46,10 @@ fn looks_stand_between_steps(rt: HostRuntime) -> Result<(), Fail> {
         look_a, step, step, step, step, look_a, step, look_a, look_b, step, step, look_a,
     ];
     let mut out: Vec<Answer<ShortMessage, EnhancedMessage>> = Vec::with_capacity(rt.alloc(), 12)?;
-    let counter = CounterCapture::open(&COUNTER);
-    let log = AbsoluteLog::open(b"");
-    let after = run::<CounterCapture, AbsoluteLog, Short, Enhanced>(
-        counter, log, settings, settings, &calls, &mut out,
-    );
-    let AfterRun { unit, outcome } = after;
+    let (a, b) = feeds(settings);
+    let outcome = run::<CounterCapture, AbsoluteLog, Short, Enhanced>(a, b, &calls, &mut out);
     let made = outcome.is_ok();
-    let _ = unit.close();
+    let _ = outcome.unwrap_or_else(|refused| refused.unit).close();
     assert!(rt; made);
     assert_eq!(rt; out.len(), 12);
     let wanted = ['-', 'A', 'A', 'A', 'A', '-', 'A', '4', '-', 'R', 'R', '4'];
@@ -53,24 +63,16 @@ fn looks_stand_between_steps(rt: HostRuntime) -> Result<(), Fail> {
 fn a_run_without_room_takes_nothing(rt: HostRuntime) -> Result<(), Fail> {
     let settings = Settings::new(560, 1)?;
     let mut out: Vec<Answer<ShortMessage, EnhancedMessage>> = Vec::new(rt.alloc());
-    let counter = CounterCapture::open(&COUNTER);
-    let log = AbsoluteLog::open(b"");
-    let after = run::<CounterCapture, AbsoluteLog, Short, Enhanced>(
-        counter,
-        log,
-        settings,
-        settings,
+    let (a, b) = feeds(settings);
+    let outcome = run::<CounterCapture, AbsoluteLog, Short, Enhanced>(
+        a,
+        b,
         &[Call::Step],
         &mut out,
     );
-    let AfterRun { mut unit, outcome } = after;
     let refused = outcome.is_err();
-    let mut steps: u32 = 0;
-    for _ in 0..9 {
-        if unit.step().is_ok() {
-            steps = steps.saturating_add(1);
-        }
-    }
+    let mut unit = outcome.unwrap_or_else(|why| why.unit);
+    let steps = (0..9).filter(|_| unit.step().is_ok()).count();
     let _ = unit.close();
     assert!(rt; refused);
     assert_eq!(rt; out.len(), 0);
