@@ -4,6 +4,7 @@ use Rattle.model.specs.declared.settings.Settings.{Settings}
 use Rattle.model.specs.declared.event.Event.{Event}
 use Rattle.model.specs.declared.side.Side.{Side}
 use Rattle.model.specs.declared.side.Side.TheVariants.{A as SideA, B as SideB}
+use Rattle.model.specs.Events.{Lawful}
 use Rattle.serial.specs.Format.{Format}
 use Rattle.receiver.specs.declared.answer.Step.{Step}
 use Rattle.receiver.specs.declared.answer.StepRefusal.{StepRefusal}
@@ -37,6 +38,10 @@ standing_of xs ys a b =
 -- a new unit of these lists, set up so
 abbrev pub standing_new : Settings → Settings → (Side → List Event) → Standing
 standing_new a b from = record { settings_a = a; settings_b = b; state = new from }
+
+-- what is left of each list keeps the law of sources
+abbrev pub LeftLawful : Standing → Type 0
+LeftLawful u = Lawful u.state.left_a × Lawful u.state.left_b
 
 -- how it is set up, where the formats mean this
 abbrev pub setup_of : {X Y : Type 0} → Format X → Format Y → Standing → Setup X Y

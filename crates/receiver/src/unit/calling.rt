@@ -2,7 +2,7 @@ ghost use Rattle.std.specs.Prelude.{◌≡◌};
 ghost use Rattle.receiver.specs.declared.answer.Call.TheVariants.{Step as StepCall, Look};
 ghost use Rattle.receiver.specs.declared.answer.Answer.TheVariants.{Reading as ReadingAnswer};
 ghost use Rattle.receiver.specs.Units.{lists, due};
-ghost use Rattle.receiver.specs.Receiving.{standing_new, answer_of, left_by, answered, closed, refusal_number};
+ghost use Rattle.receiver.specs.Receiving.{standing_new, answer_of, left_by, LeftLawful, answered, closed, refusal_number};
 ghost use Rattle.receiver.specs.declared.answer.Subject.TheVariants.{Reading as ReadingOf};
 
 use super::Receiver;
@@ -47,6 +47,7 @@ impl<SA: EdgeSource, SB: EdgeSource, FA: SerialFormat, FB: SerialFormat> Receive
     pub fn step(&mut self) -> Result<Step<FA::Message, FB::Message>, StepRefusal>
         ensures answer { answered result ≡ answer_of FA.meaning FB.meaning self.old StepCall }
         ensures left { self.new ≡ left_by FA.meaning FB.meaning self.old StepCall }
+        ensures lawful { LeftLawful self.old }
     {
         match self.next_side().ok_or(StepRefusal::NoEvent)? {
             Side::A => {
@@ -62,7 +63,8 @@ impl<SA: EdgeSource, SB: EdgeSource, FA: SerialFormat, FB: SerialFormat> Receive
 
     // The reading of a channel.
     pub fn reading(&self, side: Side) -> Option<u16>
-        ensures { ReadingAnswer result ≡ answer_of FA.meaning FB.meaning self.now (Look (ReadingOf side)) }
+        ensures reading { ReadingAnswer result ≡ answer_of FA.meaning FB.meaning self.now (Look (ReadingOf side)) }
+        ensures lawful { LeftLawful self.now }
     {
         match side {
             Side::A => self.a.channel.reading(),
@@ -74,6 +76,7 @@ impl<SA: EdgeSource, SB: EdgeSource, FA: SerialFormat, FB: SerialFormat> Receive
     pub fn call(&mut self, call: Call) -> Answer<FA::Message, FB::Message>
         ensures answer { result ≡ answer_of FA.meaning FB.meaning self.old call }
         ensures left { self.new ≡ left_by FA.meaning FB.meaning self.old call }
+        ensures lawful { LeftLawful self.old }
     {
         match call {
             // tried: no proof is made of `map_or_else`, since a refusal does not name the messages of an answer
