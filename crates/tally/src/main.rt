@@ -8,6 +8,7 @@ use formats::enhanced::Enhanced;
 use formats::short::Short;
 use model::source::EdgeSource;
 use receiver::answer::Closing;
+use receiver::fed::Feed;
 use receiver::unit::Receiver;
 use std::io::Read;
 use unitfile::file::UnitFile;
@@ -38,7 +39,14 @@ fn counted(file: &UnitFile, input: &[u8]) -> Closing {
     let log = AbsoluteLog::open(captures.b);
     let counter = CounterCapture::open(captures.a);
     let mut unit: Receiver<CounterCapture, AbsoluteLog, Short, Enhanced> = Receiver::new(
-        counter, log, file.a, file.b,
+        Feed {
+            source: counter,
+            settings: file.a,
+        },
+        Feed {
+            source: log,
+            settings: file.b,
+        },
     );
     for _ in 0..60_000 {
         if unit.step().is_err() {
