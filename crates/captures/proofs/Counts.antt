@@ -1,13 +1,14 @@
 -- How many records a capture has, by its length.
 use Rattle.std.proofs.Common.{◌≡◌, ℕ, suc, ◌+◌, ◌*◌, ◌/◌, ◌<◌, ◌≤◌, List, [], ◌∷◌, length, Some, None, Option, sym, refl, ap, ◌∙◌, arith}
-use Rattle.records.specs.declared.record.Kind.{Kind}
-use Rattle.records.specs.declared.record.Kind.TheVariants.{Counter, Log}
+use Rattle.records.specs.Kinds.{Kind}
+use Rattle.records.specs.Kinds.{Counter, Log}
 use Rattle.records.specs.declared.record.Record.{Record}
 use Rattle.records.specs.Records.{size, records, fours, eights}
 use Rattle.records.specs.Checked.{checked}
 use Rattle.captures.specs.declared.events.Stamp.{Stamp}
 use Rattle.captures.specs.declared.events.Stamp.TheVariants.{Timed, Lost, Wrapped}
-use Rattle.captures.specs.Times.{stamps, stamp_of, wraps_after, record_count, unless_refused, events_from, last_after, all_stamps, capture_events}
+use Rattle.captures.specs.Times.{stamps, wraps_after, record_count, unless_refused, events_from, last_after, all_stamps, capture_events}
+use Rattle.captures.specs.Stamps.{stamp_of}
 use Rattle.captures.proofs.Lawfuls.{stamps_accepted}
 
 pub length_stamps : (kind : Kind) (w : ℕ) (rs : List Record) → length (stamps kind w rs) ≡ length rs

@@ -7,8 +7,8 @@ use Rattle.model.specs.declared.event.Event.TheVariants.{Edge, Break}
 use Rattle.model.specs.Proposition.{lawful_once}
 use Rattle.model.specs.Events.{place_of, time_of, Precedes, PrecedesAll, Lawful}
 use Rattle.records.specs.declared.record.Record.{Record}
-use Rattle.records.specs.declared.record.Kind.{Kind}
-use Rattle.records.specs.declared.record.Kind.TheVariants.{Counter, Log}
+use Rattle.records.specs.Kinds.{Kind}
+use Rattle.records.specs.Kinds.{Counter, Log}
 use Rattle.records.specs.declared.record.Flaw.TheVariants.{Mark}
 use Rattle.records.specs.declared.checking.CheckRefusal.{CheckRefusal}
 use Rattle.captures.specs.declared.events.Stamp.{Stamp}

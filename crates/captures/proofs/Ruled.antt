@@ -3,14 +3,15 @@ use Rattle.std.proofs.Common.{◌≡◌, ℕ, suc, ◌+◌, ◌*◌, Bool, true,
 use Rattle.model.specs.declared.event.Event.{Event}
 use Rattle.model.specs.declared.event.Event.TheVariants.{Edge, Break}
 use Rattle.records.specs.declared.record.Record.{Record}
-use Rattle.records.specs.declared.record.Kind.{Kind}
-use Rattle.records.specs.declared.record.Kind.TheVariants.{Counter, Log}
+use Rattle.records.specs.Kinds.{Kind}
+use Rattle.records.specs.Kinds.{Counter, Log}
 use Rattle.records.specs.declared.record.Flaw.TheVariants.{Mark}
 use Rattle.captures.specs.declared.events.Stamp.{Stamp}
 use Rattle.captures.specs.declared.events.Stamp.TheVariants.{Timed, Lost, Wrapped}
 use Rattle.records.specs.Records.{records, flaw_of, timely, zero_filler, letter_s, letter_c, letter_o, letter_a, letter_l}
 use Rattle.records.specs.Verdicts.{Flawless}
-use Rattle.captures.specs.Times.{is_later, prepended, stamps, stamp_of, wraps_after, lost_event, timed_event, all_stamps, in_order, event_behind, event_of, last_after}
+use Rattle.captures.specs.Times.{is_later, prepended, stamps, wraps_after, lost_event, timed_event, all_stamps, in_order, event_behind, event_of, last_after}
+use Rattle.captures.specs.Stamps.{stamp_of}
 use Rattle.captures.specs.Rules.{SaysTime, wraps_in, time_told, or_else, latest_edge, Later, EventByRule, wrapped, lost, risen, stayed, EventsByRule}
 use Rattle.captures.proofs.Lawfuls.{stamps_accepted, stamps_refused, accepted_flawless}
 use Rattle.captures.proofs.Counts.{length_stamps}

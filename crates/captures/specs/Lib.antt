@@ -1,3 +1,4 @@
+pub mod Stamps
 pub mod Times
 pub mod Rules
 pub mod Parts

@@ -1,6 +1,6 @@
 -- A part of a capture, by the places of its first and last record.
 use Rattle.std.specs.Prelude.{ℕ, ◌+◌, ◌-◌, ◌*◌, Bool, ◌&&◌, List, take, drop, nat_le, nat_lt}
-use Rattle.records.specs.declared.record.Kind.{Kind}
+use Rattle.records.specs.Kinds.{Kind}
 use Rattle.captures.specs.declared.part.PartRefusal.{PartRefusal}
 use Rattle.captures.specs.declared.part.PartRefusal.TheVariants.{NoSuchPart}
 use Rattle.records.specs.Records.{size}

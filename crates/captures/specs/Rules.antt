@@ -2,8 +2,8 @@
 use Rattle.std.specs.Prelude.{◌≡◌, ℕ, ◌+◌, ◌*◌, ◌<◌, cond, List, [], ◌∷◌, ◌++◌, length, Some, None, Option, ◌==◌}
 use Rattle.model.specs.declared.event.Event.{Event}
 use Rattle.model.specs.declared.event.Event.TheVariants.{Edge, Break}
-use Rattle.records.specs.declared.record.Kind.{Kind}
-use Rattle.records.specs.declared.record.Kind.TheVariants.{Counter, Log}
+use Rattle.records.specs.Kinds.{Kind}
+use Rattle.records.specs.Kinds.{Counter, Log}
 use Rattle.records.specs.declared.record.Record.{Record}
 use Rattle.records.specs.declared.checking.CheckRefusal.{CheckRefusal}
 use Rattle.records.specs.Records.{records, letter_c, letter_o, letter_l, letter_a}

@@ -4,21 +4,14 @@ use Rattle.std.proofs.Math.Logic.{∥∥₁_elim}
 use Rattle.model.specs.declared.event.Event.{Event}
 use Rattle.model.specs.Events.{Lawful}
 use Rattle.model.specs.Proposition.{lawful_once}
-use Rattle.records.specs.declared.record.Kind.TheVariants.{Counter, Log}
-use Rattle.captures.specs.declared.counter.CounterCapture.{CounterCapture}
-use Rattle.captures.specs.declared.absolute.AbsoluteLog.{AbsoluteLog}
+use Rattle.records.specs.declared.record.Recording.{Ghosts}
+use Rattle.captures.specs.declared.capture.Capture.{Capture}
 use Rattle.captures.specs.Times.{ahead, pending}
 
--- of a counter capture: the next event, and those behind it
-abbrev pub counter_left : CounterCapture → List Event
-counter_left s = pending s.next (ahead Counter s.behind)
+-- of a capture of either kind K: the next event, and those behind it
+module _ {K : Type 0} {G : Ghosts K} where
+  abbrev pub source_left : Capture K G → List Event
+  source_left s = pending s.next (ahead G.kind s.behind)
 
-abbrev pub counter_lawful : (s : CounterCapture) → Lawful (counter_left s)
-counter_lawful s = ∥∥₁_elim s.lawful (lawful_once (counter_left s)) (λ h. h)
-
--- of an absolute log, the same
-abbrev pub log_left : AbsoluteLog → List Event
-log_left s = pending s.next (ahead Log s.behind)
-
-abbrev pub log_lawful : (s : AbsoluteLog) → Lawful (log_left s)
-log_lawful s = ∥∥₁_elim s.lawful (lawful_once (log_left s)) (λ h. h)
+  abbrev pub source_lawful : (s : Capture K G) → Lawful (source_left s)
+  source_lawful s = ∥∥₁_elim s.lawful (lawful_once (source_left s)) (λ h. h)

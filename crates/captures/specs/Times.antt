@@ -1,21 +1,16 @@
 -- What records say of time, and the events that they become: one text for both kinds of capture.
-use Rattle.std.specs.Prelude.{ℕ, zero, suc, ◌+◌, ◌*◌, Bool, true, cond, List, [], ◌∷◌, length, Some, None, Option, ◌==◌, nat_lt}
+use Rattle.std.specs.Prelude.{ℕ, zero, suc, ◌+◌, Bool, true, cond, List, [], ◌∷◌, length, Some, None, Option, nat_lt}
 use Rattle.model.specs.declared.event.Event.{Event}
 use Rattle.model.specs.declared.event.Event.TheVariants.{Edge, Break}
-use Rattle.records.specs.declared.record.Kind.{Kind}
-use Rattle.records.specs.declared.record.Kind.TheVariants.{Counter, Log}
+use Rattle.records.specs.Kinds.{Kind}
 use Rattle.records.specs.declared.record.Record.{Record}
 use Rattle.captures.specs.declared.events.Stamp.{Stamp}
 use Rattle.captures.specs.declared.events.Stamp.TheVariants.{Timed, Lost, Wrapped}
 use Rattle.captures.specs.declared.events.Cursor.{Cursor}
 use Rattle.records.specs.declared.checking.CheckRefusal.{CheckRefusal}
-use Rattle.records.specs.Records.{records, letter_c, letter_o, letter_a}
+use Rattle.records.specs.Records.{records}
 use Rattle.records.specs.Checked.{checked}
-
--- what a record says after w wraps of the timer: a time, that edges were lost, or that the timer wrapped
-abbrev pub stamp_of : Kind → ℕ → Record → Stamp
-stamp_of Counter w r = cond (r.letter == letter_c) (Timed (65536 * w + r.value)) (cond (r.letter == letter_o) Wrapped Lost)
-stamp_of Log w r = cond (r.letter == letter_a) (Timed r.value) Lost
+use Rattle.captures.specs.Stamps.{stamp_of}
 
 abbrev pub wraps_after : ℕ → Stamp → ℕ
 wraps_after w Wrapped = w + 1

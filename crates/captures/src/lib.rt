@@ -2,6 +2,8 @@
 #![tactic(auto)]
 
 pub mod absolute;
+pub mod capture;
 pub mod counter;
 pub mod events;
 pub mod part;
+pub mod sound;

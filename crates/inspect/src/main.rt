@@ -2,15 +2,13 @@
 #![tactic(auto)]
 
 use anyhow::anyhow;
-use captures::absolute::AbsoluteLog;
-use captures::counter::CounterCapture;
-use model::settings::Settings;
+use captures::capture::Capture;
+use captures::events::Timing;
 use model::side::Side;
-use model::source::EdgeSource;
 use std::io;
 use std::io::Read;
-use unitfile::file::{FileRefusal, UnitFile};
-use unitfile::summary::{Span, Summary, summary_of};
+use unitfile::file::{FileRefusal, UnitChannel, UnitFile};
+use unitfile::summary::{Span, summary_of};
 
 // One byte more than a unit file may have, so that a longer one is seen to be too long.
 const READ_AT_MOST: u64 = 60_001;
@@ -20,7 +18,8 @@ fn main(rt: HostRuntime) -> anyhow::Result<()> {
     rt.stdin().take(READ_AT_MOST).read_to_end(&mut input)?;
     match UnitFile::read(&input) {
         Ok(file) => {
-            describe(&rt, &file, &input)?;
+            describe(&rt, Side::A, &file.a)?;
+            describe(&rt, Side::B, &file.b)?;
             Ok(())
         }
         Err(why) => {
@@ -30,25 +29,23 @@ fn main(rt: HostRuntime) -> anyhow::Result<()> {
     }
 }
 
-fn describe(rt: &HostRuntime, file: &UnitFile, input: &[u8]) -> io::Result<()> {
-    let captures = file.captures(input);
-    let records_a = CounterCapture::record_count(captures.a);
-    let summary_a = summary_of(CounterCapture::open(captures.a));
-    channel(rt, 'A', &file.a, records_a, summary_a)?;
-    let records_b = AbsoluteLog::record_count(captures.b);
-    let summary_b = summary_of(AbsoluteLog::open(captures.b));
-    channel(rt, 'B', &file.b, records_b, summary_b)
+fn letter(side: Side) -> char {
+    match side {
+        Side::A => 'A',
+        Side::B => 'B',
+    }
 }
 
-fn channel(
+fn describe<K: Timing>(
     rt: &HostRuntime,
-    letter: char,
-    settings: &Settings,
-    records: u32,
-    summary: Summary,
+    side: Side,
+    channel: &UnitChannel<'_, K>,
 ) -> io::Result<()> {
-    let k = settings.calibration();
-    let n = settings.nibbles();
+    let letter = letter(side);
+    let k = channel.settings.calibration();
+    let n = channel.settings.nibbles();
+    let records = Capture::<K>::record_count(channel.capture.bytes);
+    let summary = summary_of(Capture::open_sound(&channel.capture));
     let edges = summary.edges;
     let breaks = summary.breaks;
     match summary.span {
@@ -64,10 +61,6 @@ fn channel(
 fn refuse(rt: &HostRuntime, why: FileRefusal) -> io::Result<()> {
     let number = why.number();
     let place = why.place();
-    let letter = match why.side() {
-        Some(Side::A) => 'A',
-        Some(Side::B) => 'B',
-        None => '-',
-    };
+    let letter = why.side().map_or('-', letter);
     println!(rt; "R {number} {letter} {place}")
 }

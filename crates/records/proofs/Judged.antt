@@ -1,10 +1,9 @@
 -- The check answers as its law says.
 use Rattle.std.proofs.Common.{◌≡◌, ℕ, suc, ◌+◌, ◌%◌, true, false, cond, ◌&&◌, eqb, leb, List, [], ◌∷◌, ◌++◌, length, Some, None, Option, sym, refl, ap, ◌∙◌, add-zero, arith, eqb-true, leb-false, leb-true}
 use borrow.Author.Tests.{eqb-false}
-use Rattle.records.specs.declared.record.Kind.{Kind}
+use Rattle.records.specs.Kinds.{Kind}
 use Rattle.records.specs.declared.record.Record.{Record}
 use Rattle.records.specs.declared.record.Flaw.{Flaw}
-use Rattle.records.specs.declared.record.Flaw.TheVariants.{Mark, Content}
 use Rattle.records.specs.declared.checking.CheckRefusal.{CheckRefusal}
 use Rattle.records.specs.declared.checking.CheckRefusal.TheVariants.{Length}
 use Rattle.records.specs.Records.{size, records, flaw_of}
@@ -28,15 +27,11 @@ flawless_none kind p (r ∷ rs) h = ap (λ (f : Option Flaw). flawed_or p f (fir
 
 -- a refusal for a flaw is of one place and one flaw
 same_place : (p q : ℕ) (g f : Flaw) → ◌≡◌ {A = Option CheckRefusal} (Some (flawed_at p g)) (Some (flawed_at q f)) → (p ≡ q) × (g ≡ f)
-same_place p q Mark Mark e = (cc, refl)
-same_place p q Content Content e = (cc, refl)
-same_place p q Mark Content e = let z : ◌≡◌ {A = ℕ} 0 1 = cc in absurd (omega arith)
-same_place p q Content Mark e = let z : ◌≡◌ {A = ℕ} 0 1 = cc in absurd (omega arith)
+same_place p q g f e = (cc, cc)
 
 -- and is none for the length
 not_length : (p : ℕ) (f : Flaw) → ◌≡◌ {A = Option CheckRefusal} (Some (flawed_at p f)) (Some Length) → ⊥
-not_length p Mark e = let z : ◌≡◌ {A = ℕ} 0 1 = cc in omega arith
-not_length p Content e = let z : ◌≡◌ {A = ℕ} 0 1 = cc in omega arith
+not_length p f e = let z : ◌≡◌ {A = ℕ} 0 1 = cc in omega arith
 
 never_length : (kind : Kind) (p : ℕ) (rs : List Record) → first_flaw kind p rs ≡ Some Length → ⊥
 never_length kind p [] e = let z : ◌≡◌ {A = ℕ} 0 1 = cc in omega arith

@@ -1,28 +1,26 @@
 -- Which captures are refused, and for what.
 use Rattle.std.specs.Prelude.{ℕ, ◌+◌, ◌%◌, cond, ◌&&◌, List, [], ◌∷◌, length, Some, None, Option, ◌==◌, nat_le}
-use Rattle.records.specs.declared.record.Kind.{Kind}
+use Rattle.records.specs.Kinds.{Kind}
 use Rattle.records.specs.declared.record.Record.{Record}
 use Rattle.records.specs.declared.record.Flaw.{Flaw}
-use Rattle.records.specs.declared.record.Flaw.TheVariants.{Mark as BadMark, Content as BadContent}
+use Rattle.records.specs.declared.record.Flaw.TheVariants.{Mark, Content}
 use Rattle.records.specs.declared.checking.CheckRefusal.{CheckRefusal}
-use Rattle.records.specs.declared.checking.CheckRefusal.TheVariants.{Length, Mark, Content}
+use Rattle.records.specs.declared.checking.CheckRefusal.TheVariants.{Length, Flawed}
 use Rattle.records.specs.Records.{size, records, flaw_of}
 
 abbrev pub check_number : CheckRefusal → ℕ
 check_number Length = 1
-check_number (Mark p) = 2
-check_number (Content p) = 3
+check_number (Flawed p Mark) = 2
+check_number (Flawed p Content) = 3
 
 -- the record that a refusal names, or 0 where it names none
 abbrev pub check_record : CheckRefusal → ℕ
 check_record Length = 0
-check_record (Mark p) = p
-check_record (Content p) = p
+check_record (Flawed p f) = p
 
 -- a flaw of the record at the place p
 abbrev pub flawed_at : ℕ → Flaw → CheckRefusal
-flawed_at p BadMark = Mark p
-flawed_at p BadContent = Content p
+flawed_at p f = Flawed p f
 
 -- the flaw at the place p, or what a later record is refused for
 abbrev pub flawed_or : ℕ → Option Flaw → Option CheckRefusal → Option CheckRefusal

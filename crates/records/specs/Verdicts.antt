@@ -1,6 +1,6 @@
 -- What the check of a capture answers, told by the length of the capture and by its records one by one.
 use Rattle.std.specs.Prelude.{◌≡◌, ℕ, ◌%◌, ◌≤◌, List, [], ◌∷◌, ◌++◌, length, Some, None}
-use Rattle.records.specs.declared.record.Kind.{Kind}
+use Rattle.records.specs.Kinds.{Kind}
 use Rattle.records.specs.declared.record.Record.{Record}
 use Rattle.records.specs.declared.record.Flaw.{Flaw}
 use Rattle.records.specs.declared.checking.CheckRefusal.TheVariants.{Length}

@@ -1,19 +1,17 @@
 // Whether a capture is sound, record by record.
 ghost use Rattle.std.specs.Prelude.{◌≡◌, Some, None, MatchResult};
-ghost use Rattle.records.specs.Checked.{checked, check_number, check_record, flawed_at};
+ghost use Rattle.records.specs.Checked.{checked, check_number, check_record};
 ghost use Rattle.records.specs.Verdicts.{RefusedByTheFirstBadRecord};
 
-use crate::record::{Flaw, Kind, MOST_BYTES};
+use crate::record::{Flaw, MOST_BYTES, Recording};
 
 // Why a capture is refused.
 #[derive(Clone, Copy, PartialEq, Eq, Debug)]
 pub enum CheckRefusal {
     // the length is no multiple of the record's, or too great
     Length,
-    // the record at this place has a mark that its kind lacks
-    Mark { place: u32 },
-    // the record at this place has a filler that is not zero, or a time that is too late
-    Content { place: u32 },
+    // the record at this place, the first that is bad, has this flaw
+    Flawed { place: u32, flaw: Flaw },
 }
 
 impl CheckRefusal {
@@ -22,8 +20,14 @@ impl CheckRefusal {
     {
         match self {
             CheckRefusal::Length => 1,
-            CheckRefusal::Mark { .. } => 2,
-            CheckRefusal::Content { .. } => 3,
+            CheckRefusal::Flawed {
+                flaw: Flaw::Mark,
+                ..
+            } => 2,
+            CheckRefusal::Flawed {
+                flaw: Flaw::Content,
+                ..
+            } => 3,
         }
     }
 
@@ -33,43 +37,31 @@ impl CheckRefusal {
     {
         match self {
             CheckRefusal::Length => 0,
-            CheckRefusal::Mark { place } => place,
-            CheckRefusal::Content { place } => place,
-        }
-    }
-}
-
-impl Flaw {
-    fn at(self, place: u32) -> CheckRefusal
-        ensures { result ≡ flawed_at place self }
-    {
-        match self {
-            Flaw::Mark => CheckRefusal::Mark { place },
-            Flaw::Content => CheckRefusal::Content { place },
+            CheckRefusal::Flawed { place, .. } => place,
         }
     }
 }
 
 // The check of a capture of either kind.
-pub fn check(kind: Kind, bytes: &[u8]) -> Result<(), CheckRefusal>
-    ensures verdict { MatchResult result (λ _. checked kind bytes.now ≡ None) (λ e. checked kind bytes.now ≡ Some e) }
-    ensures refused_by_the_first_bad_record { RefusedByTheFirstBadRecord kind bytes.now }
+pub fn check<K: Recording>(bytes: &[u8]) -> Result<(), CheckRefusal>
+    ensures verdict { MatchResult result (λ _. checked K.kind bytes.now ≡ None) (λ e. checked K.kind bytes.now ≡ Some e) }
+    ensures refused_by_the_first_bad_record { RefusedByTheFirstBadRecord K.kind bytes.now }
 {
-    verdict(kind, bytes)
+    verdict::<K>(bytes)
 }
 
 // What the check finds: the length first, then the records up to the first that is bad.
-fn verdict(kind: Kind, bytes: &[u8]) -> Result<(), CheckRefusal>
-    ensures { MatchResult result (λ _. checked kind bytes.now ≡ None) (λ e. checked kind bytes.now ≡ Some e) }
+fn verdict<K: Recording>(bytes: &[u8]) -> Result<(), CheckRefusal>
+    ensures { MatchResult result (λ _. checked K.kind bytes.now ≡ None) (λ e. checked K.kind bytes.now ≡ Some e) }
 {
-    if bytes.len() > MOST_BYTES || bytes.len() % kind.size() != 0 {
+    if bytes.len() > MOST_BYTES || bytes.len() % K::SIZE != 0 {
         return Err(CheckRefusal::Length);
     }
     let mut rest = bytes;
     let mut place = 0;
-    while let Some(cut) = kind.first_record(rest) {
-        if let Some(flaw) = kind.flaw(cut.record) {
-            return Err(flaw.at(place));
+    while let Some(cut) = K::first_record(rest) {
+        if let Some(flaw) = K::flaw(cut.record) {
+            return Err(CheckRefusal::Flawed { place, flaw });
         }
         rest = cut.rest;
         place += 1;

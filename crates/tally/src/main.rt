@@ -6,7 +6,6 @@ use captures::absolute::AbsoluteLog;
 use captures::counter::CounterCapture;
 use formats::enhanced::Enhanced;
 use formats::short::Short;
-use model::source::EdgeSource;
 use receiver::answer::Closing;
 use receiver::fed::Feed;
 use receiver::unit::Receiver;
@@ -21,7 +20,7 @@ fn main(rt: HostRuntime) -> anyhow::Result<()> {
     rt.stdin().take(READ_AT_MOST).read_to_end(&mut input)?;
     match UnitFile::read(&input) {
         Ok(file) => {
-            let closing = counted(&file, &input);
+            let closing = counted(&file);
             println!(rt; "A frames {} faults {}", closing.a.frames, closing.a.faults)?;
             println!(rt; "B frames {} faults {}", closing.b.frames, closing.b.faults)?;
             Ok(())
@@ -34,24 +33,18 @@ fn main(rt: HostRuntime) -> anyhow::Result<()> {
 }
 
 // The unit owns its sources from here on, and closing takes the unit. A capture that is to be read again is opened again.
-fn counted(file: &UnitFile, input: &[u8]) -> Closing {
-    let captures = file.captures(input);
-    let log = AbsoluteLog::open(captures.b);
-    let counter = CounterCapture::open(captures.a);
+fn counted(file: &UnitFile<'_>) -> Closing {
+    let (counter, log) = file.open();
     let mut unit: Receiver<CounterCapture, AbsoluteLog, Short, Enhanced> = Receiver::new(
         Feed {
             source: counter,
-            settings: file.a,
+            settings: file.a.settings,
         },
         Feed {
             source: log,
-            settings: file.b,
+            settings: file.b.settings,
         },
     );
-    for _ in 0..60_000 {
-        if unit.step().is_err() {
-            break;
-        }
-    }
+    while let Ok(_) = unit.step() {}
     unit.close()
 }

@@ -1,20 +1,19 @@
 -- A unit file is accepted exactly if it is an encoding.
-use Rattle.std.proofs.Common.{◌≡◌, ℕ, ◌+◌, ◌-◌, ◌*◌, ◌/◌, ◌%◌, ◌<◌, ◌≤◌, min, true, false, cond, List, [], ◌∷◌, ◌++◌, length, get_or, take, drop, IfOk, Some, None, Ok, Err, Option, Result, sym, refl, ap, ◌∙◌, subst, inl, inr, add_assoc, arith, MatchResult}
-use Rattle.std.proofs.lemmas.List.{drop_more, drop_all, take_all, take_at, drop_at, take-append-drop, length-drop, length-append, length-take-le}
-use Rattle.std.proofs.lemmas.Bool.{cases_lt}
+use Rattle.std.proofs.Common.{◌≡◌, ℕ, ◌+◌, ◌-◌, ◌*◌, ◌/◌, ◌%◌, ◌<◌, ◌≤◌, true, false, cond, List, [], ◌∷◌, ◌++◌, length, get_or, take, drop, IfOk, Some, None, Ok, Err, Option, Result, sym, refl, ap, ap₂, ◌∙◌, subst, add_assoc, arith, MatchResult}
+use Rattle.std.proofs.lemmas.List.{drop_more, take_at, drop_at, take-append-drop, length-drop, length-append, length-take-le}
 use Rattle.model.proofs.Prepared.{settings_accepted}
 use Rattle.captures.proofs.Lawfuls.{accepted_short}
 use Rattle.std.proofs.lemmas.Bool.Decides.{nat_tests}
 use Rattle.model.specs.declared.side.Side.TheVariants.{A as ChannelA, B as ChannelB}
 use Rattle.model.specs.declared.settings.Settings.{Settings}
-use Rattle.records.specs.declared.record.Kind.TheVariants.{Counter, Log}
+use Rattle.records.specs.Kinds.{Counter, Log}
 use Rattle.records.specs.Checked.{checked}
 use Rattle.unitfile.specs.declared.file.UnitFile.{UnitFile}
 use Rattle.unitfile.specs.declared.file.FileRefusal.{FileRefusal}
 use Rattle.unitfile.specs.declared.file.FileRefusal.TheVariants.{Layout}
 use Rattle.model.specs.declared.side.Side.{Side}
 use Rattle.model.specs.Preparing.{refused}
-use Rattle.unitfile.specs.Files.{four_bytes, number_at, encoded, head_bytes, FileRead, Encoding, EncodingsAccepted, file_refused, side_refused, channel_refused, settings_refused, capture_refused, or_else, laid_out, kind_of, head_of, capture_of}
+use Rattle.unitfile.specs.Files.{four_bytes, number_at, encoded, head_bytes, SettingsRead, FileRead, Encoding, EncodingsAccepted, file_refused, side_refused, channel_refused, settings_refused, capture_refused, or_else, laid_out, kind_of, head_of, capture_of}
 
 -- a number is made of its four bytes, and they of it
 four_back : (a b c d : ℕ) → b < 256 → c < 256 → d < 256 → four_bytes (((a * 256 + b) * 256 + c) * 256 + d) ≡ a ∷ b ∷ c ∷ d ∷ []
@@ -88,31 +87,38 @@ capture_sound side k n c e =
       | Some w ↦ λ h. let z : ◌≡◌ {A = ℕ} 0 1 = cc in absurd (omega arith)
     ]) both.1
 
-is_encoding : (xs : List ℕ) → ((k : ℕ) → get_or xs k 0 < 256) → (u : UnitFile) → FileRead xs u → Encoding xs u
-is_encoding xs fit u h =
-    let a = accepted xs h.accepted in
-    let n = u.length_a in
+-- a file that is accepted is the encoding of settings that were read of it and of its two captures
+is_encoding : (xs : List ℕ) → ((k : ℕ) → get_or xs k 0 < 256) → (sa sb : Settings) → SettingsRead ChannelA xs sa → SettingsRead ChannelB xs sb → Accepted xs
+    → xs ≡ encoded sa (capture_of ChannelA xs) sb (capture_of ChannelB xs)
+is_encoding xs fit sa sb ra rb a =
+    let n = number_at xs 7 in
     let ca = take n (drop 20 xs) in
     let cb = drop n (drop 20 xs) in
     let enough : 11 ≤ length xs = omega (arith, a.whole) in
     let more : 20 ≤ length xs = omega (arith, a.whole) in
     let rest : length (drop 20 xs) ≡ length xs - 20 = length-drop 20 xs in
-    let la : length ca ≡ number_at xs 7 = length-take-le n (drop 20 xs) (omega (arith, h.length_of_a, a.filled, rest)) ∙ h.length_of_a in
-    let lb : length cb ≡ number_at xs 16 = length-drop n (drop 20 xs) ∙ omega (arith, h.length_of_a, a.filled, rest) in
+    let la : length ca ≡ n = length-take-le n (drop 20 xs) (omega (arith, a.filled, rest)) in
+    let lb : length cb ≡ number_at xs 16 = length-drop n (drop 20 xs) ∙ omega (arith, a.filled, rest) in
     let body : drop 20 xs ≡ ca ++ cb = sym (take-append-drop n (drop 20 xs)) in
-    let head_b : drop 11 xs ≡ head_bytes u.b cb ++ drop 20 xs = head_there xs 11 more fit u.b cb h.settings_b.calibration h.settings_b.nibbles lb in
-    let head_a : drop 2 xs ≡ head_bytes u.a ca ++ drop 11 xs = head_there xs 2 enough fit u.a ca h.settings_a.calibration h.settings_a.nibbles la in
+    let head_b : drop 11 xs ≡ head_bytes sb cb ++ drop 20 xs = head_there xs 11 more fit sb cb rb.calibration rb.nibbles lb in
+    let head_a : drop 2 xs ≡ head_bytes sa ca ++ drop 11 xs = head_there xs 2 enough fit sa ca ra.calibration ra.nibbles la in
     let marks : xs ≡ 83 ∷ 85 ∷ drop 2 xs = drop_more xs 0 0 (omega arith) ∙ ap (λ z. get_or xs 0 0 ∷ z) (drop_more xs 1 0 (omega arith))
     ∙ ap (λ z. z ∷ get_or xs 1 0 ∷ drop 2 xs) a.mark.0 ∙ ap (λ z. 83 ∷ z ∷ drop 2 xs) a.mark.1 in
+    marks ∙ ap (λ z. 83 ∷ 85 ∷ z) (head_a ∙ ap (λ z. head_bytes sa ca ++ z) (head_b ∙ ap (λ z. head_bytes sb cb ++ z) body))
+
+read_encoding : (xs : List ℕ) → ((k : ℕ) → get_or xs k 0 < 256) → (u : UnitFile) → FileRead xs u → Encoding xs u
+read_encoding xs fit u h =
+    let a = accepted xs h.accepted in
     record {
-      is = marks ∙ ap (λ z. 83 ∷ 85 ∷ z) (head_a ∙ ap (λ z. head_bytes u.a ca ++ z) (head_b ∙ ap (λ z. head_bytes u.b cb ++ z) body));
-      capture_a_accepted = subst (λ (m : ℕ). checked Counter (take m (drop 20 xs)) ≡ None) (sym h.length_of_a) (capture_sound ChannelA (head_of ChannelA xs).calibration (head_of ChannelA xs).nibbles (capture_of ChannelA xs) a.sound_a);
-      capture_b_accepted = subst (λ (m : ℕ). checked Log (drop m (drop 20 xs)) ≡ None) (sym h.length_of_a) (capture_sound ChannelB (head_of ChannelB xs).calibration (head_of ChannelB xs).nibbles (capture_of ChannelB xs) a.sound_b);
+      is = is_encoding xs fit u.a.settings u.b.settings h.settings_a h.settings_b a
+          ∙ sym (ap₂ (λ (c d : List ℕ). encoded u.a.settings c u.b.settings d) h.read_a h.read_b);
+      capture_a_accepted = ap (checked Counter) h.read_a ∙ capture_sound ChannelA (head_of ChannelA xs).calibration (head_of ChannelA xs).nibbles (capture_of ChannelA xs) a.sound_a;
+      capture_b_accepted = ap (checked Log) h.read_b ∙ capture_sound ChannelB (head_of ChannelB xs).calibration (head_of ChannelB xs).nibbles (capture_of ChannelB xs) a.sound_b;
     }
 
 pub accepted_is_an_encoding : (xs : List ℕ) → ((k : ℕ) → get_or xs k 0 < 256) → (r : Result UnitFile FileRefusal)
     → MatchResult r (λ u. FileRead xs u) (λ e. file_refused xs ≡ Some e) → IfOk r (λ u. Encoding xs u)
-accepted_is_an_encoding xs fit (Ok u) h = is_encoding xs fit u h
+accepted_is_an_encoding xs fit (Ok u) h = read_encoding xs fit u h
 accepted_is_an_encoding xs fit (Err e) h = tt
 
 -- an encoding is accepted
@@ -157,25 +163,9 @@ encodings_accepted xs (Err e) h sa ca sb cb fa fb is =
     let fine = encoding_accepted sa ca sb cb fa fb in
     let z : ◌≡◌ {A = ℕ} 0 1 = cc (ap file_refused is) in absurd (omega arith)
 encodings_accepted xs (Ok u) h sa ca sb cb fa fb is =
-    let g : FileRead (encoded sa ca sb cb) u = subst (λ (z : List ℕ). FileRead z u) is h in
-    let n : u.length_a ≡ length ca = g.length_of_a ∙ four_whole (length ca) in (
+    let g : FileRead (encoded sa ca sb cb) u = subst (λ (z : List ℕ). FileRead z u) is h in (
       (g.settings_a.calibration ∙ four_whole sa.calibration, g.settings_a.nibbles),
-      ap (λ z. take u.length_a (drop 20 z)) is ∙ take_at ca cb _ (sym n),
+      g.read_a ∙ first_is sa ca sb cb fa fb,
       (g.settings_b.calibration ∙ four_whole sb.calibration, g.settings_b.nibbles),
-      ap (λ z. drop u.length_a (drop 20 z)) is ∙ drop_at ca cb _ (sym n),
+      g.read_b ∙ second_is sa ca sb cb fa fb,
     )
-
--- a cut past the end
-pub take_clipped : (n : ℕ) (xs : List ℕ) → take (min n (length xs)) xs ≡ take n xs
-take_clipped n xs =
-    elim (cases_lt n (length xs)) [
-      | inl h ↦ let e : min n (length xs) ≡ n = omega arith in ap (λ m. take m xs) e
-      | inr h ↦ let e : min n (length xs) ≡ length xs = omega arith in ap (λ m. take m xs) e ∙ take_all (length xs) xs (omega arith) ∙ sym (take_all n xs h)
-    ]
-
-pub drop_clipped : (n : ℕ) (xs : List ℕ) → drop (min n (length xs)) xs ≡ drop n xs
-drop_clipped n xs =
-    elim (cases_lt n (length xs)) [
-      | inl h ↦ let e : min n (length xs) ≡ n = omega arith in ap (λ m. drop m xs) e
-      | inr h ↦ let e : min n (length xs) ≡ length xs = omega arith in ap (λ m. drop m xs) e ∙ drop_all (length xs) xs (omega arith) ∙ sym (drop_all n xs h)
-    ]

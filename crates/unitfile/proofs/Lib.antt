@@ -1,2 +1,3 @@
 mod Encodings
+mod Heads
 mod Spans

@@ -5,11 +5,12 @@ use Rattle.model.specs.declared.side.Side.TheVariants.{A as ChannelA, B as Chann
 use Rattle.model.specs.declared.settings.Settings.{Settings}
 use Rattle.model.specs.declared.settings.SettingsRefusal.{SettingsRefusal}
 use Rattle.model.specs.Preparing.{refused, refusal_number}
-use Rattle.records.specs.declared.record.Kind.{Kind}
-use Rattle.records.specs.declared.record.Kind.TheVariants.{Counter, Log}
+use Rattle.records.specs.Kinds.{Kind}
+use Rattle.records.specs.Kinds.{Counter, Log}
 use Rattle.records.specs.declared.checking.CheckRefusal.{CheckRefusal}
 use Rattle.records.specs.Checked.{checked, check_number, check_record}
 use Rattle.unitfile.specs.declared.file.Head.{Head}
+use Rattle.unitfile.specs.declared.file.Part.{Part}
 use Rattle.unitfile.specs.declared.file.UnitFile.{UnitFile}
 use Rattle.unitfile.specs.declared.file.FileRefusal.{FileRefusal}
 use Rattle.unitfile.specs.declared.file.FileRefusal.TheVariants.{Layout, Channel, Capture}
@@ -108,30 +109,36 @@ head_bytes s capture = four_bytes s.calibration ++ (s.nibbles ∷ four_bytes (le
 abbrev pub encoded : Settings → List ℕ → Settings → List ℕ → List ℕ
 encoded sa ca sb cb = 83 ∷ 85 ∷ (head_bytes sa ca ++ (head_bytes sb cb ++ (ca ++ cb)))
 
+-- a channel's part of the file: what the header says of it, and its capture
+pub record PartRead (side : Side) (bytes : List ℕ) (p : Part) : Type 0 where
+  pub head : p.head ≡ head_of side bytes
+  pub capture : p.capture.now ≡ capture_of side bytes
+
 -- the settings that the header has for a channel
 pub record SettingsRead (side : Side) (bytes : List ℕ) (s : Settings) : Type 0 where
   pub calibration : s.calibration ≡ (head_of side bytes).calibration
   pub nibbles : s.nibbles ≡ (head_of side bytes).nibbles
 
+-- the captures that were read of a file
+abbrev pub capture_a : UnitFile → List ℕ
+capture_a u = u.a.capture.bytes.now
+
+abbrev pub capture_b : UnitFile → List ℕ
+capture_b u = u.b.capture.bytes.now
+
 -- what is read of a file that is accepted
 pub record FileRead (bytes : List ℕ) (u : UnitFile) : Type 0 where
   pub accepted : file_refused bytes ≡ None
-  pub settings_a : SettingsRead ChannelA bytes u.a
-  pub settings_b : SettingsRead ChannelB bytes u.b
-  pub length_of_a : u.length_a ≡ (head_of ChannelA bytes).length
+  pub settings_a : SettingsRead ChannelA bytes u.a.settings
+  pub settings_b : SettingsRead ChannelB bytes u.b.settings
+  pub read_a : capture_a u ≡ capture_of ChannelA bytes
+  pub read_b : capture_b u ≡ capture_of ChannelB bytes
 
--- the captures that what was read finds in a file
-abbrev pub capture_a : UnitFile → List ℕ → List ℕ
-capture_a u bytes = first_capture u.length_a bytes
-
-abbrev pub capture_b : UnitFile → List ℕ → List ℕ
-capture_b u bytes = second_capture u.length_a bytes
-
--- the file is the encoding of the settings that were read of it and of the two captures found in it, and these are accepted
+-- the file is the encoding of the settings and of the captures that were read of it, and these are accepted
 pub record Encoding (bytes : List ℕ) (u : UnitFile) : Type 0 where
-  pub is : bytes ≡ encoded u.a (capture_a u bytes) u.b (capture_b u bytes)
-  pub capture_a_accepted : checked Counter (capture_a u bytes) ≡ None
-  pub capture_b_accepted : checked Log (capture_b u bytes) ≡ None
+  pub is : bytes ≡ encoded u.a.settings (capture_a u) u.b.settings (capture_b u)
+  pub capture_a_accepted : checked Counter (capture_a u) ≡ None
+  pub capture_b_accepted : checked Log (capture_b u) ≡ None
 
 -- settings of the same numbers
 abbrev pub SameSettings : Settings → Settings → Type 0
@@ -142,4 +149,4 @@ abbrev pub EncodingsAccepted : List ℕ → Result UnitFile FileRefusal → Type
 EncodingsAccepted bytes r =
     (sa : Settings) (ca : List ℕ) (sb : Settings) (cb : List ℕ) → checked Counter ca ≡ None → checked Log cb ≡ None
     → bytes ≡ encoded sa ca sb cb
-    → MatchResult r (λ u. SameSettings u.a sa × (capture_a u bytes ≡ ca) × SameSettings u.b sb × (capture_b u bytes ≡ cb)) (λ e. ⊥)
+    → MatchResult r (λ u. SameSettings u.a.settings sa × (capture_a u ≡ ca) × SameSettings u.b.settings sb × (capture_b u ≡ cb)) (λ e. ⊥)

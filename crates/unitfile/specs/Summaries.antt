@@ -4,6 +4,7 @@ use Rattle.model.specs.declared.event.Event.{Event}
 use Rattle.model.specs.declared.event.Event.TheVariants.{Edge, Break}
 use Rattle.model.specs.Events.{time_of}
 use Rattle.unitfile.specs.declared.summary.Span.{Span}
+use Rattle.unitfile.specs.declared.summary.Summary.{Summary}
 
 -- how many edges, and how many breaks
 abbrev pub edges_of : List Event → ℕ
@@ -34,3 +35,8 @@ span_of (e ∷ es) = Some (record { first = time_of e; last = last_of (time_of e
 abbrev pub extended_span : Option Span → ℕ → Option Span
 extended_span None t = Some (record { first = t; last = t })
 extended_span (Some s) t = Some (record { first = s.first; last = t })
+
+-- the figures of some events, and of one more
+abbrev pub with_event : Summary → Event → Summary
+with_event s (Edge p t) = record { edges = capped (s.edges + 1); breaks = s.breaks; span = extended_span s.span t }
+with_event s (Break p t) = record { edges = s.edges; breaks = capped (s.breaks + 1); span = extended_span s.span t }

@@ -1,6 +1,6 @@
 // What a source has to give, in figures.
 ghost use Rattle.std.specs.Prelude.{◌≡◌};
-ghost use Rattle.unitfile.specs.Summaries.{edges_of, breaks_of, capped, span_of, extended_span};
+ghost use Rattle.unitfile.specs.Summaries.{edges_of, breaks_of, capped, span_of};
 
 use model::event::Event;
 use model::source::EdgeSource;
@@ -20,18 +20,20 @@ pub struct Summary {
     pub span: Option<Span>,
 }
 
-fn extended(span: Option<Span>, time: u64) -> Option<Span>
-    ensures { result ≡ extended_span span time }
-{
-    match span {
-        None => Some(Span {
-            first: time,
-            last: time,
-        }),
-        Some(known) => Some(Span {
-            first: known.first,
-            last: time,
-        }),
+impl Summary {
+    ghost use Rattle.unitfile.specs.Summaries.{with_event};
+
+    // Counts one more event.
+    fn add(&mut self, event: Event)
+        ensures { self.new ≡ with_event self.old event }
+    {
+        match event {
+            Event::Edge { .. } => self.edges = self.edges.saturating_add(1),
+            Event::Break { .. } => self.breaks = self.breaks.saturating_add(1),
+        }
+        let last = event.time();
+        let first = self.span.map_or(last, |span| span.first);
+        self.span = Some(Span { first, last });
     }
 }
 
@@ -41,19 +43,13 @@ pub fn summary_of<S: EdgeSource + Drop>(mut source: S) -> Summary
     ensures breaks { result.breaks ≡ capped (breaks_of (S.EdgeSource.events source)) }
     ensures span { result.span ≡ span_of (S.EdgeSource.events source) }
 {
-    let mut edges: u32 = 0;
-    let mut breaks: u32 = 0;
-    let mut span = None;
+    let mut summary = Summary {
+        edges: 0,
+        breaks: 0,
+        span: None,
+    };
     while let Some(event) = source.take() {
-        match event {
-            Event::Edge { .. } => edges = edges.saturating_add(1),
-            Event::Break { .. } => breaks = breaks.saturating_add(1),
-        }
-        span = extended(span, event.time());
+        summary.add(event);
     }
-    Summary {
-        edges,
-        breaks,
-        span,
-    }
+    summary
 }

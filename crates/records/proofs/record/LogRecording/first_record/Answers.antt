@@ -1,0 +1,7 @@
+use Rattle.records.proofs.Cuts.{cut_eight}
+use Rattle.records.proofs.record.LogRecording.first_record.Goals as goal
+
+pub returns : goal.returns
+returns c =
+    let e = c.in_ok-first.ensures.cases in
+    (cut_eight c.args.bytes.now _ _ _ e.0 e.1 e.2 c.from_be_bytes-value.ensures, e.2)
