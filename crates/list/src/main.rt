@@ -11,10 +11,10 @@ const READ_AT_MOST: u64 = 60_001;
 fn main(rt: HostRuntime) -> anyhow::Result<()> {
     let mut input = Vec::new(rt.alloc());
     rt.stdin().take(READ_AT_MOST).read_to_end(&mut input)?;
-    let room = Vec::with_capacity(rt.alloc(), room_for(input.len()))?;
-    let listed = list(&input, room);
-    rt.stdout().write_all(&listed.bytes)?;
-    match listed.outcome {
+    let mut listing = Vec::with_capacity(rt.alloc(), room_for(input.len()))?;
+    let listed = list(&input, &mut listing);
+    rt.stdout().write_all(&listing)?;
+    match listed {
         Ok(Verdict::Accepted) => Ok(()),
         Ok(Verdict::Refused) => Err(anyhow!("the file is refused")),
         Err(_) => Err(anyhow!("there is no room for the listing")),

@@ -1,7 +1,8 @@
 -- How long lines and their parts are.
-use Rattle.std.proofs.Common.{◌≡◌, ℕ, ◌+◌, ◌^◌, ◌<◌, ◌≤◌, List, [], ◌∷◌, ◌++◌, map, length, take, codes, decimal, arith, lit<, length-append, length-take}
+use Rattle.std.proofs.Common.{◌≡◌, ℕ, zero, suc, ◌+◌, ◌*◌, ◌/◌, ◌^◌, ◌<◌, ◌≤◌, List, [], ◌∷◌, ◌++◌, map, length, take, codes, decimal, arith, lit<, length-append, length-take}
 use lib.ListN.{length-map}
 use Rattle.std.proofs.lemmas.Fmt.{length-decimal-le}
+use Rattle.itoa.proofs.Decimal.{length_one, length_step_wide}
 use Rattle.model.specs.declared.fault.FaultKind.{FaultKind}
 use Rattle.model.specs.declared.fault.FaultKind.TheVariants.{Break, Interval, Calibration, ShortNibble, LongNibble, FrameCheck, SerialCheck}
 use Rattle.model.specs.Faults.{number}
@@ -10,6 +11,14 @@ use Rattle.listing.specs.declared.report.LineReport.{LineReport}
 use Rattle.listing.specs.declared.report.LineReport.TheVariants.{Frame, Short, Enhanced, Fault}
 use Rattle.listing.specs.Laws.{InTypes, NoLineLongerThan48}
 use Rattle.listing.specs.Lines.{hex_digit, side_letter, kind_letter, place_of, details, following, lettered, four_fields, line}
+
+-- a number from 10^k up to 10^(k+1) has k + 1 digits
+pub digits_are : (k n : ℕ) → 10 ^ k ≤ n → n < 10 * 10 ^ k → n < 2 ^ 64 → k + 1 ≡ length (decimal n)
+digits_are zero n low high f = omega (arith, length_one n (omega arith))
+digits_are (suc k) n low high f =
+    let step = length_step_wide n (omega arith) (omega arith) in
+    let few = digits_are k (n / 10) (omega arith) (omega arith) (omega arith) in
+    omega arith
 
 -- the decimal digits of a time, and of numbers of 32, 16 and 8 bits
 pub time_short : (n : ℕ) → n < 2 ^ 40 → length (decimal n) ≤ 13
@@ -20,6 +29,9 @@ word_short n h = length-decimal-le 10 n (lit< tt) (omega arith) (omega arith)
 
 pub half_short : (n : ℕ) → n < 2 ^ 16 → length (decimal n) ≤ 5
 half_short n h = length-decimal-le 5 n (lit< tt) (omega arith) (omega arith)
+
+pub byte_short : (n : ℕ) → n < 2 ^ 8 → length (decimal n) ≤ 5
+byte_short n h = half_short n (omega arith)
 
 -- a field with the space before it, and the fields behind it
 pub length_following : (f : List ℕ) (fs : List (List ℕ)) → length (following (f ∷ fs)) ≡ 1 + length f + length (following fs)
@@ -32,6 +44,9 @@ pub length_four_fields : (first number second place : ℕ) → length (four_fiel
 unfolding four_fields
 length_four_fields first number second place =
     omega (arith, length-append (decimal number) (codes " " ++ (second ∷ (codes " " ++ decimal place))))
+
+-- what the lengths of a line's parts come from
+pub ruleset sizes = (arith, length-append, time_short, word_short, half_short, byte_short, length_lettered, length_four_fields)
 
 number_small : (kind : FaultKind) → number kind < 2 ^ 16
 number_small Break = lit< tt

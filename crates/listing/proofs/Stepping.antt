@@ -105,10 +105,9 @@ module _ (sa sb a b : Settings) (at_a : a ≡ sa) (at_b : b ≡ sb) (u v : UnitS
   same_left : v ≡ after (listing_setup sa sb) u StepCall
   same_left = left ∙ ap₂ (λ (p q : Settings). after (listing_setup p q) u StepCall) at_a at_b
 
-  pub lines_on : (bytes more whole : List ℕ) (na nb : ℕ) → na ≡ sa.nibbles → nb ≡ sb.nibbles → more ≡ bytes ++ step_lines na nb x
-      → bytes ++ unit_listing sa sb u ≡ whole → more ++ unit_listing sa sb v ≡ whole
-  lines_on bytes more whole na nb ea eb e inv =
-      ap (λ (zs : List ℕ). zs ++ unit_listing sa sb v) (e ∙ ap₂ (λ (m n : ℕ). bytes ++ step_lines m n x) ea eb)
+  pub lines_on : (bytes more whole : List ℕ) → more ≡ bytes ++ step_lines sa.nibbles sb.nibbles x → bytes ++ unit_listing sa sb u ≡ whole → more ++ unit_listing sa sb v ≡ whole
+  lines_on bytes more whole e inv =
+      ap (λ (zs : List ℕ). zs ++ unit_listing sa sb v) e
       ∙ append_assoc bytes (step_lines sa.nibbles sb.nibbles x) (unit_listing sa sb v)
       ∙ ap (λ (zs : List ℕ). bytes ++ zs) (sym (listing_more sa sb u v x same_said same_left))
       ∙ inv

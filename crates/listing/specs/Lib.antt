@@ -3,4 +3,3 @@ pub mod Lines
 pub mod Listings
 pub mod Verdicts
 pub mod Worked
-pub mod Written

@@ -24,6 +24,7 @@ use Rattle.receiver.specs.declared.answer.Answer.TheVariants.{Stepped, Refused, 
 use Rattle.receiver.specs.Standing.{ruled}
 use Rattle.receiver.specs.Units.{Setup, setup, lists, new, UnitState, answers, after_all}
 use Rattle.runs.specs.Law.{steps, RunsOut, LawfulRun, AnsweredInTurn}
+use Rattle.listing.specs.declared.report.LineReport.{LineReport}
 use Rattle.listing.specs.declared.report.LineReport.TheVariants.{Frame, Short, Enhanced, Fault}
 use Rattle.listing.specs.Lines.{line, closing_line, refusal_line}
 
@@ -34,16 +35,18 @@ pulse_lines d n t Skipped = []
 pulse_lines d n t (Framed row) = line d n t (Frame row)
 pulse_lines d n t (Failed f) = line d n t (Fault f)
 
--- the line of a serial report; channel A has the short format, channel B the enhanced one
+-- the line of a serial report, whose messages are told by the report that is given
+abbrev pub serial_lines : {M : Type 0} → (ℕ → M → LineReport) → Side → ℕ → ℕ → Option (SerialReport M) → List ℕ
+serial_lines told d n t None = []
+serial_lines told d n t (Some (Told p m)) = line d n t (told p m)
+serial_lines told d n t (Some (CheckFailed f)) = line d n t (Fault f)
+
+-- channel A has the short format, channel B the enhanced one
 abbrev pub short_lines : ℕ → ℕ → Option (SerialReport ShortMessage) → List ℕ
-short_lines n t None = []
-short_lines n t (Some (Told p m)) = line SideA n t (Short p m)
-short_lines n t (Some (CheckFailed f)) = line SideA n t (Fault f)
+short_lines = serial_lines Short SideA
 
 abbrev pub enhanced_lines : ℕ → ℕ → Option (SerialReport EnhancedMessage) → List ℕ
-enhanced_lines n t None = []
-enhanced_lines n t (Some (Told p m)) = line SideB n t (Enhanced p m)
-enhanced_lines n t (Some (CheckFailed f)) = line SideB n t (Fault f)
+enhanced_lines = serial_lines Enhanced SideB
 
 -- the lines of a step, where A's frames have na data nibbles and B's nb: the pulse line before the serial line
 abbrev pub step_lines : ℕ → ℕ → Step ShortMessage EnhancedMessage → List ℕ

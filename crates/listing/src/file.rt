@@ -5,9 +5,8 @@ ghost use Rattle.unitfile.specs.Files.{file_refused};
 ghost use Rattle.listing.specs.Listings.{unit_listing, ceiling, Listing, ListedInTurn};
 ghost use Rattle.listing.specs.Verdicts.{verdict_of};
 
-use crate::append::{append_closing, append_front, append_refusal};
 use crate::line::MOST_BYTES;
-use crate::steps::put_step;
+use crate::page::Page;
 use formats::enhanced::Enhanced;
 use formats::short::Short;
 use model::settings::Settings;
@@ -15,8 +14,35 @@ use model::source::EdgeSource;
 use receiver::unit::Receiver;
 use unitfile::file::UnitFile;
 
-// Lines are gathered in a block of so many bytes, so that the listing is appended to once for many of them.
+// Lines are gathered in a page of so many bytes, so that the listing is appended to once for many of them.
 const BLOCK: usize = 4_096;
+
+// Appends to a listing that has the room already.
+fn append(listing: &mut Vec<u8>, bytes: &[u8])
+    requires { vec_len listing.old + length bytes.now ≤ vec_capacity listing.old }
+    ensures items { listing.new.items ≡ listing.old.items ++ bytes.now }
+    ensures len { vec_len listing.new ≡ vec_len listing.old + length bytes.now }
+    ensures capacity { vec_capacity listing.old ≤ vec_capacity listing.new }
+{
+    match listing.extend_from_slice(bytes) {
+        Ok(()) => {}
+        Err(_) => unreachable(),
+    }
+}
+
+// Passes the bytes of a page on to the listing, once the page has no room for the lines of another step.
+fn pass_on(page: &mut Page<BLOCK>, listing: &mut Vec<u8>)
+    requires { vec_len listing.old + length page.old ≤ vec_capacity listing.old }
+    ensures items { listing.new.items ++ page.new ≡ listing.old.items ++ page.old }
+    ensures len { vec_len listing.new + length page.new ≡ vec_len listing.old + length page.old }
+    ensures capacity { vec_capacity listing.old ≤ vec_capacity listing.new }
+    ensures room { length page.new + 96 ≤ 4096 }
+{
+    if page.len() > BLOCK - 2 * MOST_BYTES {
+        append(listing, page.as_slice());
+        page.clear();
+    }
+}
 
 // Steps a new unit until no event is left. Each line goes out as it comes, and no answer is stored.
 fn list_unit<SA: EdgeSource + Drop, SB: EdgeSource + Drop>(
@@ -24,35 +50,24 @@ fn list_unit<SA: EdgeSource + Drop, SB: EdgeSource + Drop>(
     source_b: SB,
     settings_a: Settings,
     settings_b: Settings,
-    out: Vec<u8>,
-) -> Vec<u8>
-    requires { vec_len out + (96 * (length (SA.EdgeSource.events source_a) + length (SB.EdgeSource.events source_b)) + 48) ≤ vec_capacity out }
-    ensures items { result.items ≡ out.items ++ unit_listing settings_a settings_b (new (lists (SA.EdgeSource.events source_a) (SB.EdgeSource.events source_b))) }
-    ensures len { vec_len result ≤ vec_len out + (96 * (length (SA.EdgeSource.events source_a) + length (SB.EdgeSource.events source_b)) + 48) }
-    ensures capacity { vec_capacity out ≤ vec_capacity result }
+    out: &mut Vec<u8>,
+)
+    requires { vec_len out.old + (96 * (length (SA.EdgeSource.events source_a) + length (SB.EdgeSource.events source_b)) + 48) ≤ vec_capacity out.old }
+    ensures items { out.new.items ≡ out.old.items ++ unit_listing settings_a settings_b (new (lists (SA.EdgeSource.events source_a) (SB.EdgeSource.events source_b))) }
+    ensures len { vec_len out.new ≤ vec_len out.old + (96 * (length (SA.EdgeSource.events source_a) + length (SB.EdgeSource.events source_b)) + 48) }
+    ensures capacity { vec_capacity out.old ≤ vec_capacity out.new }
 {
     let mut unit: Receiver<SA, SB, Short, Enhanced> = Receiver::new(
         source_a, source_b, settings_a, settings_b,
     );
-    let mut bytes = out;
-    let mut block = [0u8; BLOCK];
-    let mut at = 0;
+    let mut page: Page<BLOCK> = Page::new();
     while let Ok(step) = unit.step() {
-        at = put_step(
-            &mut block,
-            at,
-            settings_a.nibbles(),
-            settings_b.nibbles(),
-            step,
-        );
-        if at > BLOCK - 2 * MOST_BYTES {
-            bytes = append_front(bytes, &block, at);
-            at = 0;
-        }
+        page.step(settings_a, settings_b, step);
+        pass_on(&mut page, out);
     }
-    let whole = append_front(bytes, &block, at);
     let closing = unit.close();
-    append_closing(whole, closing.a.frames, closing.b.frames)
+    page.closing(closing.a.frames, closing.b.frames);
+    append(out, page.as_slice());
 }
 
 // Whether the file that was listed was accepted.
@@ -69,13 +84,6 @@ pub enum ListRefusal {
     Room,
 }
 
-// The bytes that were lent, and what became of them.
-#[derive(Drop)]
-pub struct Listed {
-    pub bytes: Vec<u8>,
-    pub outcome: Result<Verdict, ListRefusal>,
-}
-
 // The room that the listing of a file of so many bytes may need.
 pub fn room_for(length: usize) -> usize
     ensures { result ≡ ceiling length }
@@ -83,54 +91,41 @@ pub fn room_for(length: usize) -> usize
     24 * length.min(60_000) + 48
 }
 
-// A listing, and whether its file was accepted.
-#[derive(Drop)]
-struct Made {
-    bytes: Vec<u8>,
-    verdict: Verdict,
-}
-
-fn make_listing(input: &[u8], out: Vec<u8>) -> Made
-    requires { (out.items ≡ []) × ((vec_len out ≡ 0) × (ceiling (length input.now) ≤ vec_capacity out)) }
-    ensures listing { Listing input.now result.bytes.items }
-    ensures verdict { result.verdict ≡ verdict_of (file_refused input.now) }
-    ensures short { vec_len result.bytes ≤ ceiling (length input.now) }
-    ensures capacity { vec_capacity out ≤ vec_capacity result.bytes }
+fn make_listing(input: &[u8], out: &mut Vec<u8>) -> Verdict
+    requires { (out.old.items ≡ []) × ((vec_len out.old ≡ 0) × (ceiling (length input.now) ≤ vec_capacity out.old)) }
+    ensures listing { Listing input.now out.new.items }
+    ensures verdict { result ≡ verdict_of (file_refused input.now) }
+    ensures short { vec_len out.new ≤ ceiling (length input.now) }
+    ensures capacity { vec_capacity out.old ≤ vec_capacity out.new }
 {
     let open = UnitFile::open(input);
     match open.file {
-        Ok(file) => Made {
-            bytes: list_unit(open.counter, open.log, file.a, file.b, out),
-            verdict: Verdict::Accepted,
-        },
-        Err(why) => Made {
-            bytes: append_refusal(out, why),
-            verdict: Verdict::Refused,
-        },
+        Ok(file) => {
+            list_unit(open.counter, open.log, file.a, file.b, out);
+            Verdict::Accepted
+        }
+        Err(why) => {
+            let mut page: Page<MOST_BYTES> = Page::new();
+            page.refusal(why);
+            append(out, page.as_slice());
+            Verdict::Refused
+        }
     }
 }
 
 // The listing of a unit file, in the place of what the list held: the line of its refusal, or the lines of all reports in the order of the
 // steps and the closing line. The list needs the room of the file's length already, and is left as it was if it has not.
-pub fn list(input: &[u8], out: Vec<u8>) -> Listed
-    ensures refused_exactly_for_want_of_room { MatchResult result.outcome (λ _. ceiling (length input.now) ≤ vec_capacity out) (λ _. vec_capacity out < ceiling (length input.now)) }
-    ensures listing_of_the_file { MatchResult result.outcome (λ _. Listing input.now result.bytes.items) (λ _. result.bytes.items ≡ out.items) }
+pub fn list(input: &[u8], out: &mut Vec<u8>) -> Result<Verdict, ListRefusal>
+    ensures refused_exactly_for_want_of_room { MatchResult result (λ _. ceiling (length input.now) ≤ vec_capacity out.old) (λ _. vec_capacity out.old < ceiling (length input.now)) }
+    ensures listing_of_the_file { MatchResult result (λ _. Listing input.now out.new.items) (λ _. out.new.items ≡ out.old.items) }
     ensures answered_in_turn { ListedInTurn input.now }
-    ensures no_longer_than_the_ceiling { MatchResult result.outcome (λ _. vec_len result.bytes ≤ ceiling (length input.now)) (λ _. vec_len result.bytes ≡ vec_len out) }
-    ensures room_stays { MatchResult result.outcome (λ _. vec_capacity out ≤ vec_capacity result.bytes) (λ _. vec_capacity result.bytes ≡ vec_capacity out) }
-    ensures verdict_of_the_file { IfOk result.outcome (λ v. v ≡ verdict_of (file_refused input.now)) }
+    ensures no_longer_than_the_ceiling { MatchResult result (λ _. vec_len out.new ≤ ceiling (length input.now)) (λ _. vec_len out.new ≡ vec_len out.old) }
+    ensures room_stays { MatchResult result (λ _. vec_capacity out.old ≤ vec_capacity out.new) (λ _. vec_capacity out.new ≡ vec_capacity out.old) }
+    ensures verdict_of_the_file { IfOk result (λ v. v ≡ verdict_of (file_refused input.now)) }
 {
     if out.capacity() < room_for(input.len()) {
-        return Listed {
-            bytes: out,
-            outcome: Err(ListRefusal::Room),
-        };
+        return Err(ListRefusal::Room);
     }
-    let mut empty = out;
-    empty.clear();
-    let made = make_listing(input, empty);
-    Listed {
-        bytes: made.bytes,
-        outcome: Ok(made.verdict),
-    }
+    out.clear();
+    Ok(make_listing(input, out))
 }

@@ -1,209 +1,224 @@
 // The line of one report.
+#![tactic(auto, using(crate::proofs::Sizes::sizes), unfolding(crate::specs::Lines::four_fields))]
+
 ghost use Rattle.std.specs.Prelude.{◌≡◌, ◌+◌, ◌^◌, ◌<◌, ◌≤◌, [], ◌∷◌, ◌++◌, length, drop, Some, None, decimal, MatchResult};
 ghost use Rattle.model.specs.Faults.{number};
-ghost use Rattle.listing.specs.Written.{Wrote};
-ghost use Rattle.listing.specs.Lines.{side_letter, kind_letter, place_of, details, following, lettered, four_fields, line, line_refused};
+ghost use Rattle.listing.specs.Lines.{side_letter, details, following, lettered, four_fields, line, line_refused, closing_line, refused_letter, refusal_line};
 ghost use Rattle.listing.specs.Worked.{WorkedLines};
 ghost use Rattle.listing.specs.Laws.{NoLineLongerThan48, LinesTellReportsApart};
 
-use crate::digits::{hex, put, put_decimal, put_end, put_nibbles, put_space};
+use crate::page::{Page, hex};
 use crate::report::{LineRefusal, LineReport};
 use model::event::TIME_LIMIT;
 use model::fault::FaultKind;
 use model::side::Side;
 use pulses::frame::FrameRow;
+use unitfile::file::FileRefusal;
 
 // As many bytes have room for every line.
 pub const MOST_BYTES: usize = 48;
 
+// Of which channel a line tells, how many data nibbles its frames have, and at what time.
+#[derive(Clone, Copy)]
+pub(crate) struct Head {
+    pub(crate) side: Side,
+    pub(crate) nibbles: u8,
+    pub(crate) time: u64,
+    ghost few: { nibbles ≤ 6 },
+    ghost early: { time < 2 ^ 40 },
+}
+
 pub(crate) fn letter_of(side: Side) -> u8
     ensures { result ≡ side_letter side }
 {
-    let letter = match side {
-        Side::A => 'A',
-        Side::B => 'B',
-    };
-    letter as u8
-}
-
-// The letter that says what the line tells.
-fn kind_of(report: LineReport) -> u8
-    ensures { result ≡ kind_letter report }
-{
-    let letter = match report {
-        LineReport::Frame(_) => 'F',
-        LineReport::Short { .. } => 'M',
-        LineReport::Enhanced { .. } => 'M',
-        LineReport::Fault(_) => 'X',
-    };
-    letter as u8
-}
-
-fn place_of(report: LineReport) -> u32
-    ensures { result ≡ place_of report }
-{
-    match report {
-        LineReport::Frame(row) => row.place,
-        LineReport::Short { place, .. } => place,
-        LineReport::Enhanced { place, .. } => place,
-        LineReport::Fault(fault) => fault.place,
+    match side {
+        Side::A => b'A',
+        Side::B => b'B',
     }
 }
 
-// A letter, a number, a letter and a number: channel, time, kind and place of a report.
-pub(crate) fn put_four(
-    buffer: &mut [u8],
-    start: usize,
-    first: u8,
-    number: u64,
-    second: u8,
-    place: u32,
-) -> usize
-    requires { (start + 28 ≤ length buffer.old) × (number < 2 ^ 40) }
-    ensures wrote { Wrote buffer.old start (four_fields first number second place) buffer.new result }
-    ensures short { result ≤ start + 28 }
+// The letter of the refused channel, or a dash where it is the file as a whole.
+fn refused_letter(side: Option<Side>) -> u8
+    ensures { result ≡ refused_letter side }
 {
-    let at = put(buffer, start, first);
-    let at = put_space(buffer, at);
-    let at = put_decimal(buffer, at, number);
-    let at = put_space(buffer, at);
-    let at = put(buffer, at, second);
-    let at = put_space(buffer, at);
-    put_decimal(buffer, at, place as u64)
+    side.map_or(b'-', letter_of)
 }
 
-// A letter and two numbers, which end a line.
-pub(crate) fn put_lettered(
-    buffer: &mut [u8],
-    at: usize,
-    letter: u8,
-    first: u32,
-    second: u32,
-) -> usize
-    requires { at + (length (decimal first) + length (decimal second) + 4) ≤ length buffer.old }
-    ensures { Wrote buffer.old at (lettered letter first second) buffer.new result }
-{
-    let at = put(buffer, at, letter);
-    let at = put_space(buffer, at);
-    let at = put_decimal(buffer, at, first as u64);
-    let at = put_space(buffer, at);
-    let at = put_decimal(buffer, at, second as u64);
-    put_end(buffer, at)
-}
+impl<const N: usize> Page<N> {
+    // A letter, a number, a letter and a number: channel, time, kind and place of a report.
+    fn four_fields(&mut self, first: u8, number: u64, second: u8, place: u32)
+        requires { (length self.old + 28 ≤ N) × (number < 2 ^ 40) }
+        ensures wrote { self.new ≡ self.old ++ four_fields first number second place }
+        ensures short { length self.new ≤ length self.old + 28 }
+    {
+        self.push(first);
+        self.space();
+        self.decimal(number);
+        self.space();
+        self.push(second);
+        self.space();
+        self.decimal(place as u64);
+    }
 
-// The end of a message's line: the letter of its format, its id and its data.
-fn put_message(buffer: &mut [u8], at: usize, format: u8, id: u8, data: u16) -> usize
-    requires { at + 15 ≤ length buffer.old }
-    ensures wrote { Wrote buffer.old at (following ((format ∷ []) ∷ decimal id ∷ decimal «data» ∷ [])) buffer.new result }
-    ensures short { result ≤ at + 15 }
-{
-    let at = put_space(buffer, at);
-    put_lettered(buffer, at, format, id as u32, data as u32)
-}
+    // A letter and two numbers, which end a line.
+    fn lettered(&mut self, letter: u8, first: u32, second: u32)
+        requires { length self.old + (length (decimal first) + length (decimal second) + 4) ≤ N }
+        ensures { self.new ≡ self.old ++ lettered letter first second }
+    {
+        self.push(letter);
+        self.space();
+        self.decimal(first as u64);
+        self.space();
+        self.decimal(second as u64);
+        self.end();
+    }
 
-// The end of a frame's line: its status and its first data nibbles.
-fn put_frame(buffer: &mut [u8], at: usize, nibbles: u8, row: FrameRow) -> usize
-    requires { (at + 15 ≤ length buffer.old) × (nibbles ≤ 6) }
-    ensures wrote { Wrote buffer.old at (following (details nibbles (LineReport.Frame row))) buffer.new result }
-    ensures short { result ≤ at + 15 }
-{
-    let frame = row.frame();
-    let at = put_space(buffer, at);
-    let at = put(buffer, at, hex(frame.status()) as u8);
-    let at = put_space(buffer, at);
-    let values = frame.nibbles();
-    let at = put_nibbles(buffer, at, &values[0..nibbles as usize]);
-    put_end(buffer, at)
-}
+    // The end of a message's line: the letter of its format, its id and its data.
+    fn message(&mut self, format: u8, id: u8, data: u16)
+        requires { length self.old + 15 ≤ N }
+        ensures wrote { self.new ≡ self.old ++ following ((format ∷ []) ∷ decimal id ∷ decimal «data» ∷ []) }
+        ensures short { length self.new ≤ length self.old + 15 }
+    {
+        self.space();
+        self.lettered(format, id as u32, data as u32);
+    }
 
-// The end of a fault's line: its number.
-fn put_fault(buffer: &mut [u8], at: usize, kind: FaultKind) -> usize
-    requires { at + 15 ≤ length buffer.old }
-    ensures wrote { Wrote buffer.old at (following (decimal (number kind) ∷ [])) buffer.new result }
-    ensures short { result ≤ at + 15 }
-{
-    let at = put_space(buffer, at);
-    let at = put_decimal(buffer, at, kind.number() as u64);
-    put_end(buffer, at)
-}
+    // The end of a frame's line: its status and its first data nibbles.
+    fn frame(&mut self, nibbles: u8, row: FrameRow)
+        requires { (length self.old + 15 ≤ N) × (nibbles ≤ 6) }
+        ensures wrote { self.new ≡ self.old ++ following (details nibbles (LineReport.Frame row)) }
+        ensures short { length self.new ≤ length self.old + 15 }
+    {
+        let frame = row.frame();
+        self.space();
+        self.push(hex(frame.status()) as u8);
+        self.space();
+        let values = frame.nibbles();
+        self.nibbles(&values[0..nibbles as usize]);
+        self.end();
+    }
 
-// The fields behind the place, and the line feed.
-fn put_details(buffer: &mut [u8], at: usize, nibbles: u8, report: LineReport) -> usize
-    requires { (at + 15 ≤ length buffer.old) × (nibbles ≤ 6) }
-    ensures wrote { Wrote buffer.old at (following (details nibbles report)) buffer.new result }
-    ensures short { result ≤ at + 15 }
-{
-    match report {
-        LineReport::Frame(row) => put_frame(buffer, at, nibbles, row),
-        LineReport::Short { message, .. } => {
-            put_message(buffer, at, 'S' as u8, message.id, message.data as u16)
+    // The end of a fault's line: its number.
+    fn fault(&mut self, kind: FaultKind)
+        requires { length self.old + 15 ≤ N }
+        ensures wrote { self.new ≡ self.old ++ following (decimal (number kind) ∷ []) }
+        ensures short { length self.new ≤ length self.old + 15 }
+    {
+        self.space();
+        self.decimal(kind.number() as u64);
+        self.end();
+    }
+
+    // The fields behind the place, and the line feed.
+    fn details(&mut self, nibbles: u8, report: LineReport)
+        requires { (length self.old + 15 ≤ N) × (nibbles ≤ 6) }
+        ensures wrote { self.new ≡ self.old ++ following (details nibbles report) }
+        ensures short { length self.new ≤ length self.old + 15 }
+    {
+        match report {
+            LineReport::Frame(row) => self.frame(nibbles, row),
+            LineReport::Short { message, .. } => {
+                self.message(b'S', message.id, message.data as u16);
+            }
+            LineReport::Enhanced { message, .. } => {
+                self.message(b'E', message.id, message.data);
+            }
+            LineReport::Fault(fault) => self.fault(fault.kind),
         }
-        LineReport::Enhanced { message, .. } => {
-            put_message(buffer, at, 'E' as u8, message.id, message.data)
+    }
+
+    // The line of a report, where there is room for every line.
+    #[tactic(auto, unfolding(crate::specs::Lines::line))]
+    pub(crate) fn line(&mut self, head: Head, report: LineReport)
+        requires { length self.old + 48 ≤ N }
+        ensures wrote { self.new ≡ self.old ++ line head.side head.nibbles head.time report }
+        ensures short { length self.new ≤ length self.old + 48 }
+    {
+        self.four_fields(
+            letter_of(head.side),
+            head.time,
+            report.letter(),
+            report.place(),
+        );
+        self.details(head.nibbles, report);
+    }
+
+    // The closing line: how many frames each channel received.
+    pub(crate) fn closing(&mut self, frames_a: u32, frames_b: u32)
+        requires { length self.old + 48 ≤ N }
+        ensures wrote { self.new ≡ self.old ++ closing_line frames_a frames_b }
+        ensures short { length self.new ≤ length self.old + 48 }
+    {
+        self.lettered(b'Z', frames_a, frames_b);
+    }
+
+    // The line that stands for a refused file.
+    pub(crate) fn refusal(&mut self, refusal: FileRefusal)
+        requires { length self.old + 48 ≤ N }
+        ensures wrote { self.new ≡ self.old ++ refusal_line refusal }
+        ensures short { length self.new ≤ length self.old + 48 }
+    {
+        self.four_fields(
+            b'R',
+            refusal.number() as u64,
+            refused_letter(refusal.side()),
+            refusal.place(),
+        );
+        self.end();
+    }
+}
+
+// A report of a channel whose frames have so many data nibbles, as a line tells it.
+#[derive(Clone, Copy, PartialEq, Eq, Debug)]
+pub struct Line {
+    pub side: Side,
+    pub nibbles: u8,
+    pub time: u64,
+    pub report: LineReport,
+}
+
+impl Line {
+    // The tests in their order, and then the line.
+    fn write_checked(self, buffer: &mut [u8]) -> Result<usize, LineRefusal>
+        ensures { MatchResult result (λ n. (line_refused self.nibbles self.time (length buffer.old) ≡ None) × (n ≡ length (line self.side self.nibbles self.time self.report)) × (buffer.new ≡ line self.side self.nibbles self.time self.report ++ drop n buffer.old)) (λ e. (line_refused self.nibbles self.time (length buffer.old) ≡ Some e) × (buffer.new ≡ buffer.old)) }
+    {
+        let Line {
+            side,
+            nibbles,
+            time,
+            report,
+        } = self;
+        if nibbles < 1 || nibbles > 6 {
+            return Err(LineRefusal::Nibbles);
         }
-        LineReport::Fault(fault) => put_fault(buffer, at, fault.kind),
+        if time >= TIME_LIMIT {
+            return Err(LineRefusal::Time);
+        }
+        if buffer.len() < MOST_BYTES {
+            return Err(LineRefusal::Buffer);
+        }
+        let mut page: Page<MOST_BYTES> = Page::new();
+        page.line(
+            Head {
+                side,
+                nibbles,
+                time,
+            },
+            report,
+        );
+        let count = page.len();
+        buffer[..count].copy_from_slice(page.as_slice());
+        Ok(count)
     }
-}
 
-// The line of a report, where there is room for every line.
-pub(crate) fn put_line(
-    buffer: &mut [u8],
-    start: usize,
-    side: Side,
-    nibbles: u8,
-    time: u64,
-    report: LineReport,
-) -> usize
-    requires { (start + 48 ≤ length buffer.old) × ((time < 2 ^ 40) × (nibbles ≤ 6)) }
-    ensures wrote { Wrote buffer.old start (line side nibbles time report) buffer.new result }
-    ensures short { result ≤ start + 48 }
-{
-    let at = put_four(
-        buffer,
-        start,
-        letter_of(side),
-        time,
-        kind_of(report),
-        place_of(report),
-    );
-    put_details(buffer, at, nibbles, report)
-}
-
-// The tests in their order, and then the line.
-fn write_checked(
-    buffer: &mut [u8],
-    side: Side,
-    nibbles: u8,
-    time: u64,
-    report: LineReport,
-) -> Result<usize, LineRefusal>
-    ensures { MatchResult result (λ n. (line_refused nibbles time (length buffer.old) ≡ None) × (n ≡ length (line side nibbles time report)) × (buffer.new ≡ line side nibbles time report ++ drop n buffer.old)) (λ e. (line_refused nibbles time (length buffer.old) ≡ Some e) × (buffer.new ≡ buffer.old)) }
-{
-    if nibbles < 1 || nibbles > 6 {
-        return Err(LineRefusal::Nibbles);
+    // Writes the line into a buffer, and answers how many bytes that took; what stands behind them stays.
+    // A refusal writes nothing.
+    pub fn write(self, buffer: &mut [u8]) -> Result<usize, LineRefusal>
+        ensures written { MatchResult result (λ n. (line_refused self.nibbles self.time (length buffer.old) ≡ None) × (n ≡ length (line self.side self.nibbles self.time self.report)) × (buffer.new ≡ line self.side self.nibbles self.time self.report ++ drop n buffer.old)) (λ e. (line_refused self.nibbles self.time (length buffer.old) ≡ Some e) × (buffer.new ≡ buffer.old)) }
+        ensures no_line_longer_than_48 { NoLineLongerThan48 }
+        ensures lines_tell_reports_apart { LinesTellReportsApart }
+        ensures lines_read_so { WorkedLines }
+    {
+        self.write_checked(buffer)
     }
-    if time >= TIME_LIMIT {
-        return Err(LineRefusal::Time);
-    }
-    if buffer.len() < MOST_BYTES {
-        return Err(LineRefusal::Buffer);
-    }
-    Ok(put_line(buffer, 0, side, nibbles, time, report))
-}
-
-// Writes the line of a report into a buffer, and answers how many bytes that took; what stands behind them stays.
-// A refusal writes nothing.
-pub fn write_line(
-    buffer: &mut [u8],
-    side: Side,
-    nibbles: u8,
-    time: u64,
-    report: LineReport,
-) -> Result<usize, LineRefusal>
-    ensures written { MatchResult result (λ n. (line_refused nibbles time (length buffer.old) ≡ None) × (n ≡ length (line side nibbles time report)) × (buffer.new ≡ line side nibbles time report ++ drop n buffer.old)) (λ e. (line_refused nibbles time (length buffer.old) ≡ Some e) × (buffer.new ≡ buffer.old)) }
-    ensures no_line_longer_than_48 { NoLineLongerThan48 }
-    ensures lines_tell_reports_apart { LinesTellReportsApart }
-    ensures lines_read_so { WorkedLines }
-{
-    write_checked(buffer, side, nibbles, time, report)
 }

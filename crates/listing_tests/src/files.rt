@@ -8,9 +8,9 @@ pub(crate) fn lists(
     file: &[u8],
     listing: &[u8],
 ) -> Result<(), Fail> {
-    let room = Vec::with_capacity(rt.alloc(), room_for(file.len()))?;
-    let listed = list(file, room);
-    assert!(rt; listed.bytes.as_slice() == listing);
+    let mut listed = Vec::with_capacity(rt.alloc(), room_for(file.len()))?;
+    list(file, &mut listed)?;
+    assert!(rt; listed.as_slice() == listing);
     Ok(())
 }
 
@@ -19,9 +19,8 @@ pub(crate) fn lists(
 fn want_of_room(rt: HostRuntime) -> Result<(), Fail> {
     let mut few = Vec::new(rt.alloc());
     few.push(7)?;
-    let listed = list(b"", few);
-    assert!(rt; listed.outcome.is_err());
-    assert!(rt; listed.bytes.as_slice() == [7].as_slice());
+    assert!(rt; list(b"", &mut few).is_err());
+    assert!(rt; few.as_slice() == [7].as_slice());
     Ok(())
 }
 
