@@ -1,7 +1,7 @@
 // Lists what both heads of a unit file on standard input sent, or why the file is refused.
 #![tactic(auto)]
 
-use anyhow::anyhow;
+use anyhow::{anyhow, ensure};
 use listing::file::{Verdict, list, room_for};
 use std::io::{Read, Write};
 
@@ -12,11 +12,10 @@ fn main(rt: HostRuntime) -> anyhow::Result<()> {
     let mut input = Vec::new(rt.alloc());
     rt.stdin().take(READ_AT_MOST).read_to_end(&mut input)?;
     let mut listing = Vec::with_capacity(rt.alloc(), room_for(input.len()))?;
-    let listed = list(&input, &mut listing);
+    let verdict = list(&input, &mut listing).map_err(|_| anyhow!(
+        "there is no room for the listing"
+    ))?;
     rt.stdout().write_all(&listing)?;
-    match listed {
-        Ok(Verdict::Accepted) => Ok(()),
-        Ok(Verdict::Refused) => Err(anyhow!("the file is refused")),
-        Err(_) => Err(anyhow!("there is no room for the listing")),
-    }
+    ensure!(verdict == Verdict::Accepted, "the file is refused");
+    Ok(())
 }

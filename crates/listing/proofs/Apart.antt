@@ -3,7 +3,7 @@ use Rattle.std.proofs.Common.{◌≡◌, ℕ, zero, suc, ◌+◌, ◌/◌, ◌%�
 use Rattle.std.specs.List.{AllByRecursion}
 use Rattle.std.proofs.lemmas.List.FromFn.{get_or-map-range_with_len}
 use Rattle.std.proofs.lemmas.Fmt.{decimal_by_steps, decimal_injective}
-use Rattle.std.proofs.ByRecursion.{All-append}
+use Rattle.std.proofs.ByRecursion.{All-append, All-map, All-take, All-weaker}
 use Rattle.std.proofs.lemmas.Bool.{cases_lt, lt-ltb, le-ltb}
 use Rattle.model.specs.declared.side.Side.{Side}
 use Rattle.model.specs.declared.side.Side.TheVariants.{A as ChannelA, B as ChannelB}
@@ -16,6 +16,7 @@ use Rattle.listing.specs.declared.report.LineReport.{LineReport}
 use Rattle.listing.specs.declared.report.LineReport.TheVariants.{Frame, Short, Enhanced, Fault}
 use Rattle.listing.specs.Laws.{InTypes, ShownWhole, shown, LinesTellReportsApart}
 use Rattle.listing.specs.Lines.{hex_digit, side_letter, kind_letter, place_of, details, following, four_fields, line}
+use Rattle.listing.proofs.Sizes.{number_small, place_small}
 
 -- bytes of a field: none is a space or a line feed
 abbrev Plain : List ℕ → Type 0
@@ -77,13 +78,12 @@ abbrev Nibbles : List ℕ → Type 0
 Nibbles vs = AllByRecursion (λ v. v < 16) vs
 
 digits_plain : (vs : List ℕ) → Nibbles vs → Plain (map hex_digit vs)
-digits_plain [] h = tt
-digits_plain (v ∷ vs) h = (hex_plain v h.0, digits_plain vs h.1)
+digits_plain vs h = All-map (λ c. 32 < c) hex_digit vs (All-weaker (λ v. v < 16) (λ v. 32 < hex_digit v) hex_plain vs h)
 
 digits_told : (vs ws : List ℕ) → Nibbles vs → Nibbles ws → map hex_digit vs ≡ map hex_digit ws → vs ≡ ws
 digits_told [] [] h k e = refl
-digits_told [] (w ∷ ws) h k e = let z : ◌≡◌ {A = ℕ} 0 1 = cc in absurd (omega arith)
-digits_told (v ∷ vs) [] h k e = let z : ◌≡◌ {A = ℕ} 0 1 = cc in absurd (omega arith)
+digits_told [] (w ∷ ws) h k e = cc
+digits_told (v ∷ vs) [] h k e = cc
 digits_told (v ∷ vs) (w ∷ ws) h k e =
     let first : hex_digit v ≡ hex_digit w = cc in
     let rest : map hex_digit vs ≡ map hex_digit ws = cc in
@@ -92,9 +92,7 @@ digits_told (v ∷ vs) (w ∷ ws) h k e =
     λ i. a i ∷ b i
 
 take_nibbles : (n : ℕ) (vs : List ℕ) → Nibbles vs → Nibbles (take n vs)
-take_nibbles zero vs h = tt
-take_nibbles (suc n) [] h = tt
-take_nibbles (suc n) (v ∷ vs) h = (h.0, take_nibbles n vs h.1)
+take_nibbles = All-take (λ v. v < 16)
 
 unpacked_nibbles : (d : ℕ) → Nibbles (unpacked d)
 unpacked_nibbles d = (omega arith, (omega arith, (omega arith, (omega arith, (omega arith, (omega arith, tt))))))
@@ -126,21 +124,6 @@ packed_told d e h k same =
     omega arith
 
 -- every field is plain
-number_below : (kind : FaultKind) → number kind < 2 ^ 64
-number_below Break = lit< tt
-number_below Interval = lit< tt
-number_below Calibration = lit< tt
-number_below ShortNibble = lit< tt
-number_below LongNibble = lit< tt
-number_below FrameCheck = lit< tt
-number_below SerialCheck = lit< tt
-
-place_below : (report : LineReport) → InTypes report → place_of report < 2 ^ 64
-place_below (Frame row) h = omega arith
-place_below (Short place message) h = omega arith
-place_below (Enhanced place message) h = omega arith
-place_below (Fault fault) h = omega arith
-
 kind_plain : (report : LineReport) → 32 < kind_letter report
 kind_plain (Frame row) = lit< tt
 kind_plain (Short place message) = lit< tt
@@ -154,7 +137,7 @@ details_plain n (Short place message) h =
     ((lit< tt, tt), (decimal_plain message.id (omega arith), (decimal_plain message.«data» (omega arith), tt)))
 details_plain n (Enhanced place message) h =
     ((lit< tt, tt), (decimal_plain message.id (omega arith), (decimal_plain message.«data» (omega arith), tt)))
-details_plain n (Fault fault) h = (decimal_plain (number fault.kind) (number_below fault.kind), tt)
+details_plain n (Fault fault) h = (decimal_plain (number fault.kind) (omega (arith, number_small fault.kind)), tt)
 
 -- the fields of a line behind its first
 abbrev fields : ℕ → ℕ → LineReport → List (List ℕ)
@@ -162,7 +145,7 @@ fields n time report = decimal time ∷ (kind_letter report ∷ []) ∷ decimal 
 
 fields_plain : (n time : ℕ) (report : LineReport) → time < 2 ^ 40 → InTypes report → AllByRecursion Plain (fields n time report)
 fields_plain n time report t h =
-    (decimal_plain time (omega arith), ((kind_plain report, tt), (decimal_plain (place_of report) (place_below report h), details_plain n report h)))
+    (decimal_plain time (omega arith), ((kind_plain report, tt), (decimal_plain (place_of report) (omega (arith, place_small report h)), details_plain n report h)))
 
 line_fields : (side : Side) (n time : ℕ) (report : LineReport) → line side n time report ≡ side_letter side ∷ following (fields n time report)
 unfolding line four_fields
@@ -229,7 +212,7 @@ report_told n (Fault fault) (Frame row) h k whole whole' e p d = absurd (omega (
 report_told n (Fault fault) (Short place message) h k whole whole' e p d = absurd (omega (arith, e))
 report_told n (Fault fault) (Enhanced place message) h k whole whole' e p d = absurd (omega (arith, e))
 report_told n (Fault fault) (Fault fault') h k whole whole' e p d =
-    let same = decimal_injective (number fault.kind) (number fault'.kind) (number_below fault.kind) (number_below fault'.kind) (ap (λ l. get_or l 0 []) d) in
+    let same = decimal_injective (number fault.kind) (number fault'.kind) (omega (arith, number_small fault.kind)) (omega (arith, number_small fault'.kind)) (ap (λ l. get_or l 0 []) d) in
     let kind = kind_told fault.kind fault'.kind same in
     λ i. Fault (record { kind = kind i; place = p i })
 
@@ -241,5 +224,5 @@ reports_told_apart n side side' time time' r s t t' h k whole whole' e =
     let same : fields n time r ≡ fields n time' s = fields_told (fields n time r) (fields n time' s) (fields_plain n time r t h) (fields_plain n time' s t' k) rest in
     let when : time ≡ time' = decimal_injective time time' (omega arith) (omega arith) (ap (λ l. get_or l 0 []) same) in
     let kind : kind_letter r ≡ kind_letter s = ap (λ l. get_or (get_or l 1 []) 0 0) same in
-    let place : place_of r ≡ place_of s = decimal_injective (place_of r) (place_of s) (place_below r h) (place_below s k) (ap (λ l. get_or l 2 []) same) in
+    let place : place_of r ≡ place_of s = decimal_injective (place_of r) (place_of s) (omega (arith, place_small r h)) (omega (arith, place_small s k)) (ap (λ l. get_or l 2 []) same) in
     (side_told side side' first, when, report_told n r s h k whole whole' kind place (ap (drop 3) same))

@@ -24,7 +24,7 @@ pub accepted_short : (xs : List ℕ) → file_refused xs ≡ None → length xs 
 accepted_short xs e =
     (elim (laid_out xs) as (λ b. laid_out xs ≡ b → cond b (or_else (side_refused SideA xs) (side_refused SideB xs)) (Some Layout) ≡ None → length xs ≤ 60000) [
       | true ↦ λ t h. grind (arith, nat_tests)
-      | false ↦ λ t h. let z : ◌≡◌ {A = ℕ} 0 1 = cc in absurd (omega arith)
+      | false ↦ λ t h. cc
     ]) refl e
 
 -- of both captures of a file

@@ -46,9 +46,9 @@ length_four_fields first number second place =
     omega (arith, length-append (decimal number) (codes " " ++ (second ∷ (codes " " ++ decimal place))))
 
 -- what the lengths of a line's parts come from
-pub ruleset sizes = (arith, length-append, time_short, word_short, half_short, byte_short, length_lettered, length_four_fields)
+pub ruleset sizes = (length-append, time_short, word_short, half_short, byte_short, length_lettered, length_four_fields)
 
-number_small : (kind : FaultKind) → number kind < 2 ^ 16
+pub number_small : (kind : FaultKind) → number kind < 2 ^ 16
 number_small Break = lit< tt
 number_small Interval = lit< tt
 number_small Calibration = lit< tt
@@ -57,11 +57,11 @@ number_small LongNibble = lit< tt
 number_small FrameCheck = lit< tt
 number_small SerialCheck = lit< tt
 
-place_short : (report : LineReport) → InTypes report → length (decimal (place_of report)) ≤ 10
-place_short (Frame row) h = word_short row.place h.0
-place_short (Short place message) h = word_short place h.0
-place_short (Enhanced place message) h = word_short place h.0
-place_short (Fault fault) h = word_short fault.place h
+pub place_small : (report : LineReport) → InTypes report → place_of report < 2 ^ 32
+place_small (Frame row) h = h.0
+place_small (Short place message) h = h.0
+place_small (Enhanced place message) h = h.0
+place_small (Fault fault) h = h
 
 details_short : (n : ℕ) (report : LineReport) → InTypes report → length (following (details n report)) ≤ 15
 details_short n (Frame row) h =
@@ -79,4 +79,4 @@ pub lines_short : NoLineLongerThan48
 unfolding line
 lines_short side n time report h fits =
     let front : List ℕ = four_fields (side_letter side) time (kind_letter report) (place_of report) in
-    omega (arith, length-append front (following (details n report)), length_four_fields (side_letter side) time (kind_letter report) (place_of report), time_short time h, place_short report fits, details_short n report fits)
+    omega (arith, length-append front (following (details n report)), length_four_fields (side_letter side) time (kind_letter report) (place_of report), time_short time h, word_short (place_of report) (place_small report fits), details_short n report fits)

@@ -29,24 +29,24 @@ module _ {X Y : Type 0} (s : Setup X Y) (ca cb : ChannelState) where
   of xs ys = record { left_a = xs; left_b = ys; channel_a = ca; channel_b = cb }
 
   made_by : (xs ys : List Event) (o : Option Side) (x : Step X Y) → Stepped x ≡ step_answer s (of xs ys) o → Made (of xs ys) (step_after s (of xs ys) o) x
-  made_by xs ys None x e = let z : ◌≡◌ {A = ℕ} 0 1 = cc in absurd (omega arith)
-  made_by [] ys (Some SideA) x e = let z : ◌≡◌ {A = ℕ} 0 1 = cc in absurd (omega arith)
+  made_by xs ys None x e = cc
+  made_by [] ys (Some SideA) x e = cc
   made_by (v ∷ vs) ys (Some SideA) x e =
       let is : x ≡ StepA (time_of v) (reports (s SideA) ca v) = cc in
       record { one_fewer = omega arith; in_time = λ l m. subst (λ (t : ℕ). t < 2 ^ 40) (sym (ap step_time is)) l.0 }
-  made_by xs [] (Some SideB) x e = let z : ◌≡◌ {A = ℕ} 0 1 = cc in absurd (omega arith)
+  made_by xs [] (Some SideB) x e = cc
   made_by xs (w ∷ ws) (Some SideB) x e =
       let is : x ≡ StepB (time_of w) (reports (s SideB) cb w) = cc in
       record { one_fewer = omega arith; in_time = λ l m. subst (λ (t : ℕ). t < 2 ^ 40) (sym (ap step_time is)) m.0 }
 
   none_at : (xs ys : List Event) (r : StepRefusal) → Refused r ≡ answer s (of xs ys) StepCall → events_left (of xs ys) ≡ 0
   none_at [] [] r e = refl
-  none_at (v ∷ vs) [] r e = let z : ◌≡◌ {A = ℕ} 0 1 = cc in absurd (omega arith)
-  none_at [] (w ∷ ws) r e = let z : ◌≡◌ {A = ℕ} 0 1 = cc in absurd (omega arith)
+  none_at (v ∷ vs) [] r e = cc
+  none_at [] (w ∷ ws) r e = cc
   none_at (v ∷ vs) (w ∷ ws) r e =
       (elim (ltb (time_of w) (time_of v)) as (λ b. Refused r ≡ step_answer s (of (v ∷ vs) (w ∷ ws)) (cond b (Some SideB) (Some SideA)) → events_left (of (v ∷ vs) (w ∷ ws)) ≡ 0) [
-        | true ↦ λ f. let z : ◌≡◌ {A = ℕ} 0 1 = cc in absurd (omega arith)
-        | false ↦ λ f. let z : ◌≡◌ {A = ℕ} 0 1 = cc in absurd (omega arith)
+        | true ↦ λ f. cc
+        | false ↦ λ f. cc
       ]) e
 
   none_due : (xs ys : List Event) → length xs + length ys ≡ 0 → answer s (of xs ys) StepCall ≡ Refused NoEvent

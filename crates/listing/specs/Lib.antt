@@ -3,3 +3,4 @@ pub mod Lines
 pub mod Listings
 pub mod Verdicts
 pub mod Worked
+pub mod Written

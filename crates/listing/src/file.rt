@@ -24,10 +24,9 @@ fn append(listing: &mut Vec<u8>, bytes: &[u8])
     ensures len { vec_len listing.new ≡ vec_len listing.old + length bytes.now }
     ensures capacity { vec_capacity listing.old ≤ vec_capacity listing.new }
 {
-    match listing.extend_from_slice(bytes) {
-        Ok(()) => {}
-        Err(_) => unreachable(),
-    }
+    let Ok(()) = listing.extend_from_slice(bytes) else {
+        unreachable()
+    };
 }
 
 // Passes the bytes of a page on to the listing, once the page has no room for the lines of another step.
@@ -70,7 +69,7 @@ fn list_unit<SA: EdgeSource + Drop, SB: EdgeSource + Drop>(
     append(out, page.as_slice());
 }
 
-// Whether the file that was listed was accepted.
+// Whether the file that was listed was accepted. No refusal goes with it: why a file is refused stands in its listing.
 #[derive(Clone, Copy, PartialEq, Eq, Debug)]
 pub enum Verdict {
     Accepted,

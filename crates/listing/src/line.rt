@@ -1,18 +1,16 @@
 // The line of one report.
 #![tactic(auto, using(crate::proofs::Sizes::sizes), unfolding(crate::specs::Lines::four_fields))]
 
-ghost use Rattle.std.specs.Prelude.{◌≡◌, ◌+◌, ◌^◌, ◌<◌, ◌≤◌, [], ◌∷◌, ◌++◌, length, drop, Some, None, decimal, MatchResult};
-ghost use Rattle.model.specs.Faults.{number};
-ghost use Rattle.listing.specs.Lines.{side_letter, details, following, lettered, four_fields, line, line_refused, closing_line, refused_letter, refusal_line};
+ghost use Rattle.std.specs.Prelude.{◌≡◌, ◌+◌, ◌^◌, ◌<◌, ◌≤◌, ◌++◌, length, decimal};
+ghost use Rattle.listing.specs.Lines.{side_letter, details, following, lettered, four_fields, line, closing_line, refused_letter, refusal_line};
+ghost use Rattle.listing.specs.Written.{LineWritten};
 ghost use Rattle.listing.specs.Worked.{WorkedLines};
 ghost use Rattle.listing.specs.Laws.{NoLineLongerThan48, LinesTellReportsApart};
 
 use crate::page::{Page, hex};
 use crate::report::{LineRefusal, LineReport};
 use model::event::TIME_LIMIT;
-use model::fault::FaultKind;
 use model::side::Side;
-use pulses::frame::FrameRow;
 use unitfile::file::FileRefusal;
 
 // As many bytes have room for every line.
@@ -73,57 +71,32 @@ impl<const N: usize> Page<N> {
         self.end();
     }
 
-    // The end of a message's line: the letter of its format, its id and its data.
-    fn message(&mut self, format: u8, id: u8, data: u16)
-        requires { length self.old + 15 ≤ N }
-        ensures wrote { self.new ≡ self.old ++ following ((format ∷ []) ∷ decimal id ∷ decimal «data» ∷ []) }
-        ensures short { length self.new ≤ length self.old + 15 }
-    {
-        self.space();
-        self.lettered(format, id as u32, data as u32);
-    }
-
-    // The end of a frame's line: its status and its first data nibbles.
-    fn frame(&mut self, nibbles: u8, row: FrameRow)
-        requires { (length self.old + 15 ≤ N) × (nibbles ≤ 6) }
-        ensures wrote { self.new ≡ self.old ++ following (details nibbles (LineReport.Frame row)) }
-        ensures short { length self.new ≤ length self.old + 15 }
-    {
-        let frame = row.frame();
-        self.space();
-        self.push(hex(frame.status()) as u8);
-        self.space();
-        let values = frame.nibbles();
-        self.nibbles(&values[0..nibbles as usize]);
-        self.end();
-    }
-
-    // The end of a fault's line: its number.
-    fn fault(&mut self, kind: FaultKind)
-        requires { length self.old + 15 ≤ N }
-        ensures wrote { self.new ≡ self.old ++ following (decimal (number kind) ∷ []) }
-        ensures short { length self.new ≤ length self.old + 15 }
-    {
-        self.space();
-        self.decimal(kind.number() as u64);
-        self.end();
-    }
-
     // The fields behind the place, and the line feed.
     fn details(&mut self, nibbles: u8, report: LineReport)
         requires { (length self.old + 15 ≤ N) × (nibbles ≤ 6) }
         ensures wrote { self.new ≡ self.old ++ following (details nibbles report) }
         ensures short { length self.new ≤ length self.old + 15 }
     {
+        self.space();
         match report {
-            LineReport::Frame(row) => self.frame(nibbles, row),
+            LineReport::Frame(row) => {
+                let frame = row.frame();
+                self.push(hex(frame.status()) as u8);
+                self.space();
+                let values = frame.nibbles();
+                self.nibbles(&values[..nibbles as usize]);
+                self.end();
+            }
             LineReport::Short { message, .. } => {
-                self.message(b'S', message.id, message.data as u16);
+                self.lettered(b'S', message.id as u32, message.data as u32);
             }
             LineReport::Enhanced { message, .. } => {
-                self.message(b'E', message.id, message.data);
+                self.lettered(b'E', message.id as u32, message.data as u32);
             }
-            LineReport::Fault(fault) => self.fault(fault.kind),
+            LineReport::Fault(fault) => {
+                self.decimal(fault.kind.number() as u64);
+                self.end();
+            }
         }
     }
 
@@ -180,7 +153,7 @@ pub struct Line {
 impl Line {
     // The tests in their order, and then the line.
     fn write_checked(self, buffer: &mut [u8]) -> Result<usize, LineRefusal>
-        ensures { MatchResult result (λ n. (line_refused self.nibbles self.time (length buffer.old) ≡ None) × (n ≡ length (line self.side self.nibbles self.time self.report)) × (buffer.new ≡ line self.side self.nibbles self.time self.report ++ drop n buffer.old)) (λ e. (line_refused self.nibbles self.time (length buffer.old) ≡ Some e) × (buffer.new ≡ buffer.old)) }
+        ensures { LineWritten self buffer.old buffer.new result }
     {
         let Line {
             side,
@@ -188,7 +161,7 @@ impl Line {
             time,
             report,
         } = self;
-        if nibbles < 1 || nibbles > 6 {
+        if !(1..=6).contains(&nibbles) {
             return Err(LineRefusal::Nibbles);
         }
         if time >= TIME_LIMIT {
@@ -214,7 +187,7 @@ impl Line {
     // Writes the line into a buffer, and answers how many bytes that took; what stands behind them stays.
     // A refusal writes nothing.
     pub fn write(self, buffer: &mut [u8]) -> Result<usize, LineRefusal>
-        ensures written { MatchResult result (λ n. (line_refused self.nibbles self.time (length buffer.old) ≡ None) × (n ≡ length (line self.side self.nibbles self.time self.report)) × (buffer.new ≡ line self.side self.nibbles self.time self.report ++ drop n buffer.old)) (λ e. (line_refused self.nibbles self.time (length buffer.old) ≡ Some e) × (buffer.new ≡ buffer.old)) }
+        ensures written { LineWritten self buffer.old buffer.new result }
         ensures no_line_longer_than_48 { NoLineLongerThan48 }
         ensures lines_tell_reports_apart { LinesTellReportsApart }
         ensures lines_read_so { WorkedLines }

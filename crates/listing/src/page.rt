@@ -5,8 +5,8 @@ ghost use Rattle.listing.specs.Lines.{hex_digit};
 use itoa::write_digits;
 use std::marker::Model;
 
-// Bytes that are gathered, in room for N. A vector, or one of a fixed capacity, takes each number by way of a second buffer: some 190
-// instructions a line, and this takes 110.
+// Bytes that are gathered, in room for N. A `Vec` or an `ArrayVec` takes each number by way of a second buffer: some 190 instructions a line,
+// where a page takes 110.
 #[derive(Drop)]
 pub(crate) struct Page<const N: usize> {
     bytes: [u8; N],
@@ -97,7 +97,7 @@ impl<const N: usize> Page<N> {
     }
 }
 
-// The upper-case hexadecimal digit of a nibble.
+// The upper-case hexadecimal digit of a nibble, as a letter: marks and letters are matched as such everywhere.
 pub(crate) fn hex(nibble: u8) -> char
     requires { nibble < 16 }
     ensures digit { result ≡ hex_digit nibble }

@@ -2,7 +2,7 @@ use Rattle.std.proofs.Common.{◌≡◌, ℕ, List, ◌++◌, vec_items, sym, ap
 use Rattle.receiver.specs.Standing.{settings_of}
 use Rattle.receiver.specs.Receiving.{unit_of}
 use Rattle.listing.specs.Lines.{closing_line}
-use Rattle.listing.specs.Listings.{unit_listing, events_left}
+use Rattle.listing.specs.Listings.{unit_listing}
 use Rattle.listing.proofs.Stepping.{lines_on, one_fewer_left}
 use Rattle.listing.proofs.file.list_unit.Goals as goal
 

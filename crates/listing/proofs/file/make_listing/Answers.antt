@@ -44,7 +44,7 @@ returns-in-Ok c =
     let b : left_b ≡ file_lists xs SideB = events.1 ∙ ap (λ (k : ℕ). capture_events Log (second_capture k xs)) read.length_of_a in
     record {
       listing = record {
-        refused = λ e h. let none = read.accepted in let z : ◌≡◌ {A = ℕ} 0 1 = cc in absurd (omega arith);
+        refused = λ e h. let none = read.accepted in cc;
         accepted = λ h. (
           file,
           record {

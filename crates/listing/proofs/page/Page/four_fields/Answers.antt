@@ -1,4 +1,4 @@
-use Rattle.std.proofs.Common.{ℕ, ap, length, arith, length-append}
+use Rattle.std.proofs.Common.{arith, length-append}
 use Rattle.listing.proofs.Sizes.{time_short, word_short}
 use Rattle.listing.proofs.page.Page.four_fields.Goals as goal
 
