@@ -3,7 +3,7 @@ use Rattle.std.proofs.Common.{◌≡◌, ℕ, ◌+◌, ◌*◌, ◌≤◌, true,
 use Rattle.std.proofs.lemmas.List.{length-drop, length-take}
 use Rattle.model.specs.declared.side.Side.TheVariants.{A as SideA, B as SideB}
 use Rattle.model.specs.Events.{Lawful}
-use Rattle.records.specs.declared.record.Kind.TheVariants.{Counter, Log}
+use Rattle.records.specs.Kinds.{Counter, Log}
 use Rattle.captures.specs.Times.{capture_events}
 use Rattle.captures.proofs.Counts.{events_few}
 use Rattle.formats.specs.ShortLaw.{short_lawful}
@@ -43,11 +43,11 @@ enough xs n h =
 pub lawful_listing : (xs : List ℕ) (u : UnitFile) → Lawful (file_lists xs SideA) → Lawful (file_lists xs SideB) → LawfulListing xs u
 lawful_listing xs u la lb =
     record {
-      until_refused = runs_out (listing_setup u.a u.b) _ (new (file_lists xs)) refl;
+      until_refused = runs_out (listing_setup u.a.settings u.b.settings) _ (new (file_lists xs)) refl;
       every_run_lawful = every_run_lawful _ _ _ _ short_lawful enhanced_lawful la lb (steps (events_left (new (file_lists xs))));
     }
 
 -- its run is answered in turn, whatever its file
 pub listed_in_turn : (input : List ℕ) → ListedInTurn input
 listed_in_turn input u h =
-    answered_in_turn (listing_setup u.a u.b) (file_lists input) (steps (events_left (new (file_lists input))))
+    answered_in_turn (listing_setup u.a.settings u.b.settings) (file_lists input) (steps (events_left (new (file_lists input))))

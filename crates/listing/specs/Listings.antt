@@ -12,7 +12,7 @@ use Rattle.formats.specs.declared.short.ShortMessage.{ShortMessage}
 use Rattle.formats.specs.declared.enhanced.EnhancedMessage.{EnhancedMessage}
 use Rattle.formats.specs.Short.{short}
 use Rattle.formats.specs.Enhanced.{enhanced}
-use Rattle.records.specs.declared.record.Kind.TheVariants.{Counter, Log}
+use Rattle.records.specs.Kinds.{Counter, Log}
 use Rattle.captures.specs.Times.{capture_events}
 use Rattle.unitfile.specs.declared.file.UnitFile.{UnitFile}
 use Rattle.unitfile.specs.declared.file.FileRefusal.{FileRefusal}
@@ -92,15 +92,15 @@ file_lists input = lists (capture_events Counter (capture_of SideA input)) (capt
 
 -- the run of a listing: as many steps as there are events, after which the next one is refused, and the law of every run holds of it
 pub record LawfulListing (input : List ℕ) (u : UnitFile) : Type 0 where
-  pub until_refused : RunsOut (listing_setup u.a u.b) (new (file_lists input)) (events_left (new (file_lists input)))
+  pub until_refused : RunsOut (listing_setup u.a.settings u.b.settings) (new (file_lists input)) (events_left (new (file_lists input)))
   pub every_run_lawful :
-      LawfulRun (listing_setup u.a u.b) (file_lists input) (steps (events_left (new (file_lists input))))
-      (answers (listing_setup u.a u.b) (new (file_lists input)) (steps (events_left (new (file_lists input)))))
+      LawfulRun (listing_setup u.a.settings u.b.settings) (file_lists input) (steps (events_left (new (file_lists input))))
+      (answers (listing_setup u.a.settings u.b.settings) (new (file_lists input)) (steps (events_left (new (file_lists input)))))
 
 -- bytes that are the listing of an accepted file, of which u was read: what its unit gives
 pub record AcceptedListing (input bytes : List ℕ) (u : UnitFile) : Type 0 where
   pub file_read : FileRead input u
-  pub lines : bytes ≡ unit_listing u.a u.b (new (file_lists input))
+  pub lines : bytes ≡ unit_listing u.a.settings u.b.settings (new (file_lists input))
   pub lawful : LawfulListing input u
 
 -- bytes that are the listing of a file: the line of its refusal, or what the unit of an accepted file gives
@@ -112,8 +112,8 @@ pub record Listing (input bytes : List ℕ) : Type 0 where
 abbrev pub ListedInTurn : List ℕ → Type 0
 ListedInTurn input =
     (u : UnitFile) → FileRead input u
-    → AnsweredInTurn (listing_setup u.a u.b) (file_lists input) (steps (events_left (new (file_lists input))))
-    (answers (listing_setup u.a u.b) (new (file_lists input)) (steps (events_left (new (file_lists input)))))
+    → AnsweredInTurn (listing_setup u.a.settings u.b.settings) (file_lists input) (steps (events_left (new (file_lists input))))
+    (answers (listing_setup u.a.settings u.b.settings) (new (file_lists input)) (steps (events_left (new (file_lists input)))))
 
 -- the room that the listing of a file of n bytes may need: two lines for each record, and one more
 abbrev pub ceiling : ℕ → ℕ

@@ -9,8 +9,8 @@ use crate::line::MOST_BYTES;
 use crate::page::Page;
 use formats::enhanced::Enhanced;
 use formats::short::Short;
-use model::settings::Settings;
 use model::source::EdgeSource;
+use receiver::fed::Feed;
 use receiver::unit::Receiver;
 use unitfile::file::UnitFile;
 
@@ -45,20 +45,18 @@ fn pass_on(page: &mut Page<BLOCK>, listing: &mut Vec<u8>)
 
 // Steps a new unit until no event is left. Each line goes out as it comes, and no answer is stored.
 fn list_unit<SA: EdgeSource + Drop, SB: EdgeSource + Drop>(
-    source_a: SA,
-    source_b: SB,
-    settings_a: Settings,
-    settings_b: Settings,
+    a: Feed<SA>,
+    b: Feed<SB>,
     out: &mut Vec<u8>,
 )
-    requires { vec_len out.old + (96 * (length (SA.EdgeSource.events source_a) + length (SB.EdgeSource.events source_b)) + 48) ≤ vec_capacity out.old }
-    ensures items { out.new.items ≡ out.old.items ++ unit_listing settings_a settings_b (new (lists (SA.EdgeSource.events source_a) (SB.EdgeSource.events source_b))) }
-    ensures len { vec_len out.new ≤ vec_len out.old + (96 * (length (SA.EdgeSource.events source_a) + length (SB.EdgeSource.events source_b)) + 48) }
+    requires { vec_len out.old + (96 * (length (SA.events a.source) + length (SB.events b.source)) + 48) ≤ vec_capacity out.old }
+    ensures items { out.new.items ≡ out.old.items ++ unit_listing a.settings b.settings (new (lists (SA.events a.source) (SB.events b.source))) }
+    ensures len { vec_len out.new ≤ vec_len out.old + (96 * (length (SA.events a.source) + length (SB.events b.source)) + 48) }
     ensures capacity { vec_capacity out.old ≤ vec_capacity out.new }
 {
-    let mut unit: Receiver<SA, SB, Short, Enhanced> = Receiver::new(
-        source_a, source_b, settings_a, settings_b,
-    );
+    let settings_a = a.settings;
+    let settings_b = b.settings;
+    let mut unit: Receiver<SA, SB, Short, Enhanced> = Receiver::new(a, b);
     let mut page: Page<BLOCK> = Page::new();
     while let Ok(step) = unit.step() {
         page.step(settings_a, settings_b, step);
@@ -97,10 +95,18 @@ fn make_listing(input: &[u8], out: &mut Vec<u8>) -> Verdict
     ensures short { vec_len out.new ≤ ceiling (length input.now) }
     ensures capacity { vec_capacity out.old ≤ vec_capacity out.new }
 {
-    let open = UnitFile::open(input);
-    match open.file {
+    match UnitFile::read(input) {
         Ok(file) => {
-            list_unit(open.counter, open.log, file.a, file.b, out);
+            let (counter, log) = file.open();
+            let a = Feed {
+                source: counter,
+                settings: file.a.settings,
+            };
+            let b = Feed {
+                source: log,
+                settings: file.b.settings,
+            };
+            list_unit(a, b, out);
             Verdict::Accepted
         }
         Err(why) => {

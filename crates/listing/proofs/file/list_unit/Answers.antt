@@ -1,6 +1,5 @@
 use Rattle.std.proofs.Common.{◌≡◌, ℕ, List, ◌++◌, vec_items, sym, ap, ◌∙◌, append_assoc, arith, rules}
-use Rattle.receiver.specs.Standing.{settings_of}
-use Rattle.receiver.specs.Receiving.{unit_of}
+use Rattle.receiver.specs.Receiving.{Standing}
 use Rattle.listing.specs.Lines.{closing_line}
 use Rattle.listing.specs.Listings.{unit_listing}
 use Rattle.listing.proofs.Stepping.{lines_on, one_fewer_left}
@@ -12,18 +11,19 @@ loop-step-preserved g c =
     let stepped = c.in-Ok.ensures in
     let put = c.step-in-Ok.ensures in
     let passed = c.pass_on.ensures in
-    let u = unit_of g.SA.EdgeSource.events g.SB.EdgeSource.events c.loop-step.unit in
-    let v = unit_of g.SA.EdgeSource.events g.SB.EdgeSource.events c.step.new.self in
-    let a = settings_of c.loop-step.unit.channel_a in
-    let b = settings_of c.loop-step.unit.channel_b in
+    let u = c.loop-step.unit.state in
+    let v = c.step.new.self.state in
+    let a = c.loop-step.unit.settings_a in
+    let b = c.loop-step.unit.settings_b in
+    let left = ap (λ (z : Standing). z.state) stepped.left in
     let out = vec_items c.loop-step.out in
     let gathered = ap (λ (zs : List ℕ). out ++ zs) put.wrote ∙ sym (append_assoc out c.loop-step.page _) in
-    let fewer = one_fewer_left c.args.settings_a c.args.settings_b a b inv.settings_a inv.settings_b u v c.in-Ok.step stepped.answer stepped.left in
+    let fewer = one_fewer_left c.args.a.settings c.args.b.settings a b inv.settings_a inv.settings_b u v c.in-Ok.step stepped.answer left in
     record {
-      lines = ap (λ (zs : List ℕ). zs ++ unit_listing c.args.settings_a c.args.settings_b v) passed.items
-          ∙ lines_on c.args.settings_a c.args.settings_b a b inv.settings_a inv.settings_b u v c.in-Ok.step stepped.answer stepped.left _ _ _ gathered inv.lines;
-      settings_a = stepped.settings_stay.0 ∙ inv.settings_a;
-      settings_b = stepped.settings_stay.1 ∙ inv.settings_b;
+      lines = ap (λ (zs : List ℕ). zs ++ unit_listing c.args.a.settings c.args.b.settings v) passed.items
+          ∙ lines_on c.args.a.settings c.args.b.settings a b inv.settings_a inv.settings_b u v c.in-Ok.step stepped.answer left _ _ _ gathered inv.lines;
+      settings_a = ap (λ (z : Standing). z.settings_a) stepped.left ∙ inv.settings_a;
+      settings_b = ap (λ (z : Standing). z.settings_b) stepped.left ∙ inv.settings_b;
       room = omega (arith, fewer, put.short, passed.len, passed.capacity, inv.room);
       page = passed.room;
       short = omega (arith, fewer, put.short, passed.len, inv.short);
