@@ -20,7 +20,8 @@ fn failed(kind: FaultKind, place: u32) -> Outcome
     Outcome::Failed(Fault { kind, place })
 }
 
-// The state that a frame leaves at the edge that ends it, whether or not its check fitted.
+// The state that a frame leaves at the edge that ends it, whether or not its check fitted. It is a function of the settings, so
+// that a head that pauses after a frame can differ here.
 fn after_frame(settings: Settings, edge: LastEdge) -> State
     ensures { result ≡ State.Expecting edge }
 {
