@@ -9,11 +9,12 @@ use Rattle.formats.specs.declared.enhanced.EnhancedMessage.{EnhancedMessage}
 use Rattle.formats.specs.declared.enhanced.Configuration.{Configuration}
 use Rattle.formats.specs.declared.enhanced.Configuration.TheVariants.{Data12, Data16}
 use Rattle.formats.specs.declared.layout.Position.TheVariants.{Bit3}
+use Rattle.std.proofs.lemmas.Option.{cond_some}
 use Rattle.formats.specs.Positions.{read, number, spelled}
 use Rattle.formats.specs.Layout.{lawful_by}
 use Rattle.formats.specs.Enhanced.{layout, id_bits, data_bits, configuration_of, shaped, content, enhanced, id_limit, data_limit, Within, sent, ToldWithinTheFields, EachMessageHasItsList}
 use Rattle.formats.proofs.Numbers.{bits, number_bits, spelled_below}
-use Rattle.formats.proofs.Layouts.{all_spelled, told_as, told_content}
+use Rattle.formats.proofs.Layouts.{all_spelled, told_as}
 
 check6_below : (vs : List ℕ) → AllByRecursion (λ v. v < 64) vs → check6 vs < 64
 unfolding check6
@@ -25,7 +26,7 @@ shaped_within Data16 ps = record { id_fits = spelled_below ps (id_bits Data16); 
 
 pub told_within_the_fields : ToldWithinTheFields
 told_within_the_fields ps m e =
-    let is : content ps ≡ m = told_content (lawful_by layout check6 ps) (content ps) m e in
+    let is : content ps ≡ m = (cond_some (lawful_by layout check6 ps) (content ps) m e).1 in
     subst Within is (shaped_within (configuration_of (read ps (Bit3 7))) ps)
 
 pub groups_wide : AllByRecursion (λ at. length at ≡ 6) layout.covered

@@ -1,5 +1,5 @@
 -- What lists say by a layout: the message told, the numbers that the check covers, and the check as the code takes it.
-use Rattle.std.specs.Prelude.{◌≡◌, ℕ, ◌%◌, ◌^◌, ◌<◌, Bool, true, false, cond, List, [], ◌∷◌, map, length, Some, None, ◌==◌, nat_eq}
+use Rattle.std.specs.Prelude.{◌≡◌, ℕ, ◌%◌, ◌^◌, ◌<◌, true, List, [], ◌∷◌, map, length, Some, None, ◌==◌, nat_eq}
 use Rattle.std.proofs.Common.{zero, suc, ◌+◌, slice_index_or, add-one, drop, sym, ap, ap₂, subst, ◌∙◌, arith}
 use Rattle.std.proofs.Math.Seq.{drop-cons}
 use Rattle.std.proofs.lemmas.List.{drop_all}
@@ -13,11 +13,6 @@ use Rattle.formats.specs.declared.layout.Position.{Position}
 use Rattle.formats.specs.Positions.{spelled}
 use Rattle.formats.specs.Layout.{Layout, framed_by, lawful_by, check_fits, format_by}
 use Rattle.formats.proofs.Numbers.{spelled_below}
-
--- what a told message is
-pub told_content : {M : Type 0} (b : Bool) (x m : M) → cond b (Some x) None ≡ Some m → x ≡ m
-told_content true x m e = cc
-told_content false x m e = let z : ◌≡◌ {A = ℕ} 0 1 = cc in absurd (omega arith)
 
 -- groups of w bits are below 2^w
 pub all_spelled : (w : ℕ) (ps : List Pair) (groups : List (List Position)) → AllByRecursion (λ at. length at ≡ w) groups → AllByRecursion (λ v. v < 2 ^ w) (map (spelled ps) groups)

@@ -5,15 +5,16 @@ use Rattle.std.specs.List.{AllByRecursion}
 use Rattle.checks.specs.Checks.{check4}
 use Rattle.checks.proofs.Found.{check4_below}
 use Rattle.serial.specs.declared.pair.Pair.{Pair}
+use Rattle.std.proofs.lemmas.Option.{cond_some}
 use Rattle.formats.specs.Positions.{spelled}
 use Rattle.formats.specs.Layout.{lawful_by}
 use Rattle.formats.specs.Short.{layout, id_bits, data_bits, content, Within, sent, ToldWithinTheFields, EachMessageHasItsList}
 use Rattle.formats.proofs.Numbers.{number_bits, spelled_below}
-use Rattle.formats.proofs.Layouts.{all_spelled, told_as, told_content}
+use Rattle.formats.proofs.Layouts.{all_spelled, told_as}
 
 pub told_within_the_fields : ToldWithinTheFields
 told_within_the_fields ps m e =
-    let is : content ps ≡ m = told_content (lawful_by layout check4 ps) (content ps) m e in
+    let is : content ps ≡ m = (cond_some (lawful_by layout check4 ps) (content ps) m e).1 in
     subst Within is (record { id_fits = spelled_below ps id_bits; data_fits = spelled_below ps data_bits })
 
 pub groups_wide : AllByRecursion (λ at. length at ≡ 4) layout.covered

@@ -1,5 +1,5 @@
 -- The law of every format that goes by a layout: one computed test of the layout's positions is all that it needs.
-use Rattle.std.specs.Prelude.{◌≡◌, ℕ, ◌+◌, ◌<◌, ◌≤◌, Bool, true, false, cond, ◌&&◌, ◌||◌, T, List, [], ◌∷◌, ◌++◌, length, take, drop, is_some, Some, None, ◌==◌, ◌≢◌, nat_lt, slice_index_or, refl}
+use Rattle.std.specs.Prelude.{◌≡◌, ℕ, ◌+◌, ◌<◌, ◌≤◌, Bool, true, false, ◌&&◌, ◌||◌, T, List, [], ◌∷◌, ◌++◌, length, take, drop, ◌==◌, ◌≢◌, nat_lt, slice_index_or, refl}
 use Rattle.std.specs.Bool.{beq}
 use Rattle.std.proofs.Common.{sym, ap, subst, ◌∙◌, inl, inr}
 use Rattle.std.proofs.Math.Nat.{lt_irrefl}
@@ -9,7 +9,7 @@ use Rattle.serial.specs.declared.pair.Pair.{Pair}
 use Rattle.serial.specs.Pairs.{blank}
 use Rattle.serial.specs.Format.{LawfulFormat}
 use Rattle.serial.proofs.Joined.{Inside, apart_from, stretch_at}
-use Rattle.serial.proofs.Truths.{so, is_so}
+use Rattle.serial.proofs.Truths.{so, is_so, some_told}
 use Rattle.formats.specs.declared.layout.Position.{Position}
 use Rattle.formats.specs.declared.layout.Position.TheVariants.{Bit3, Bit2}
 use Rattle.formats.specs.Positions.{each, read}
@@ -73,10 +73,6 @@ module _ (n i : ℕ) (l s : List Pair) (shifted_read : (p : Position) → inside
 stretch_read : (n i : ℕ) (l rest : List Pair) → length l ≡ n → (p : Position) → inside_pairs n (shift i p) ≡ true → read (take n (drop i (l ++ rest))) p ≡ read l (shift i p)
 stretch_read n i l rest len (Bit3 k) t = ap (λ (q : Pair). q.high) (stretch_at n i k l rest len (ltb-true (i + k) n t))
 stretch_read n i l rest len (Bit2 k) t = ap (λ (q : Pair). q.low) (stretch_at n i k l rest len (ltb-true (i + k) n t))
-
-some_told : {M : Type 0} (b : Bool) (m : M) → b ≡ is_some (cond b (Some m) None)
-some_told true m = refl
-some_told false m = refl
 
 -- a list that matches has the length of the layout
 pub framed_length : (l : Layout) (ps : List Pair) → framed_by l ps ≡ true → length ps ≡ l.size

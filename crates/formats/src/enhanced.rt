@@ -43,10 +43,12 @@ static LAYOUT: Layout<4, 6> = Layout {
     check_bits: [Bit2(0), Bit2(1), Bit2(2), Bit2(3), Bit2(4), Bit2(5)],
 };
 
+// It is set for data of sixteen bits.
+const CONFIGURATION_BIT: Position = Bit3(7);
+
 impl Configuration {
     ghost use Rattle.formats.specs.Enhanced.{configuration_of, id_bits, data_bits};
 
-    // The bit that tells which of the two follows is set for data of sixteen bits.
     fn of(wide: bool) -> Configuration
         ensures { result ≡ configuration_of wide }
     {
@@ -154,7 +156,7 @@ fn check_agrees(pairs: &[Pair]) -> bool
 fn read_content(pairs: &[Pair]) -> EnhancedMessage
     ensures { result ≡ content pairs.now }
 {
-    let configuration = Configuration::of(Bit3(7).read(pairs));
+    let configuration = Configuration::of(CONFIGURATION_BIT.read(pairs));
     EnhancedMessage {
         configuration,
         id: byte(pairs, configuration.id_bits()),

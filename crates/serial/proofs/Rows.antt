@@ -1,5 +1,5 @@
 -- Pairs and places in two rows, read as one list.
-use Rattle.std.proofs.Common.{◌≡◌, ℕ, zero, suc, ◌-◌, Bool, true, false, cond, List, [], ◌∷◌, ◌++◌, length, drop, Some, None, Option, is_some, slice_get, IfSome, sym, refl, ap, ◌∙◌, arith, length-append}
+use Rattle.std.proofs.Common.{◌≡◌, ℕ, zero, suc, ◌-◌, Bool, true, false, cond, List, [], ◌∷◌, ◌++◌, length, drop, Some, None, Option, is_some, slice_index, IfSome, sym, refl, ap, ◌∙◌, arith, length-append}
 use Rattle.serial.specs.declared.pair.Pair.{Pair}
 use Rattle.serial.specs.declared.report.SerialReport.{SerialReport}
 use Rattle.serial.specs.Format.{Format}
@@ -44,17 +44,19 @@ kept_more size ps ns p n e =
     last_paired size (ps ++ p ∷ []) (ns ++ n ∷ []) (omega (arith, length-append ps (p ∷ []), length-append ns (n ∷ [])))
     ∙ ap (last size) (push_paired ps ns p n e)
 
-first_paired : (ps : List Pair) (ns : List ℕ) (n : ℕ) → length ps ≡ length ns → slice_get ns 0 ≡ Some n → first_place (paired ps ns) ≡ n
-first_paired ps [] n e h = cc
-first_paired [] (m ∷ ns) n e h = absurd (omega arith)
-first_paired (p ∷ ps) (m ∷ ns) n e h = cc
+pub first_paired : (ps : List Pair) (ns : List ℕ) → length ps ≡ length ns → slice_index ns 0 ≡ first_place (paired ps ns)
+first_paired [] [] e = refl
+first_paired [] (n ∷ ns) e = absurd (omega arith)
+first_paired (p ∷ ps) [] e = absurd (omega arith)
+first_paired (p ∷ ps) (n ∷ ns) e = refl
 
--- what is said of the pairs, if it is said just where they match the framing
-pub said : {M : Type 0} (f : Format M) (ps : List Pair) (ns : List ℕ) (place event : ℕ) (r : Option (SerialReport M)) → length ps ≡ length ns
-    → slice_get ns 0 ≡ Some place → is_some r ≡ f.framed ps → IfSome r (λ x. x ≡ judged (f.told ps) place event) → r ≡ reported f (paired ps ns) event
-said {M = M} f ps ns place event r e first some is = rw (pairs_paired ps ns e, first_paired ps ns place e first) (at (f.framed ps) r some is)
+-- what is said of the pairs kept, if it is said just where they match the framing
+pub said : {M : Type 0} (f : Format M) (ps : List Pair) (ks : List Kept) (event : ℕ) (r : Option (SerialReport M)) → pairs_of ks ≡ ps
+    → is_some r ≡ f.framed ps → IfSome r (λ x. x ≡ judged (f.told ps) (first_place ks) event) → r ≡ reported f ks event
+said {M = M} f ps ks event r same some is = rw same (at (f.framed ps) r some is)
   where
-    at : (b : Bool) (r : Option (SerialReport M)) → is_some r ≡ b → IfSome r (λ x. x ≡ judged (f.told ps) place event) → r ≡ cond b (Some (judged (f.told ps) place event)) None
+    at : (b : Bool) (r : Option (SerialReport M)) → is_some r ≡ b → IfSome r (λ x. x ≡ judged (f.told ps) (first_place ks) event)
+        → r ≡ cond b (Some (judged (f.told ps) (first_place ks) event)) None
     at true (Some x) some is = ap Some is
     at true None some is = cc
     at false (Some x) some is = cc

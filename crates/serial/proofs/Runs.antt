@@ -1,19 +1,15 @@
 -- The law of a window over runs of frames: lawful lists joined are told whole, and nothing else is said.
-use Rattle.std.proofs.Common.{◌≡◌, ℕ, zero, suc, ◌+◌, ◌-◌, ◌%◌, ◌<◌, ◌≤◌, Bool, true, false, T, List, [], ◌∷◌, ◌++◌, map, length, take, drop, replicate, is_some, Some, None, Option, sym, refl, ap, ◌∙◌, subst, ap₂, append_assoc, append-nil, mod-eq_of_lt, zero-add, arith, length-append, length-drop}
+use Rattle.std.proofs.Common.{◌≡◌, ℕ, zero, suc, ◌+◌, ◌-◌, ◌%◌, ◌<◌, ◌≤◌, true, T, List, [], ◌∷◌, ◌++◌, map, length, take, drop, replicate, is_some, Some, None, Option, sym, refl, ap, ◌∙◌, subst, ap₂, append_assoc, append-nil, mod-eq_of_lt, zero-add, arith, length-append, length-drop}
 use native.Mathlib.Nat.{add-mod_left, add-mod_right, zero-mod, mod-add-mod}
 use Rattle.std.proofs.ByRecursion.{All-push}
 use Rattle.std.proofs.lemmas.List.{drop-drop, drop-append-le, drop_at, take_at, take-append-drop, take-map, drop-map, map-append, length-map}
-use Rattle.std.proofs.lemmas.Bool.{cond-false, cond-true, true≢false}
+use Rattle.std.proofs.lemmas.Bool.{cond-false, cond-true, false_from_ne_true, true≢false}
 use Rattle.serial.specs.declared.pair.Pair.{Pair}
 use Rattle.serial.specs.declared.report.SerialReport.{SerialReport}
 use Rattle.serial.specs.Format.{Format, LawfulFormat, joined, AllLawful}
 use Rattle.serial.specs.Windows.{Kept, last, pairs_of, first_place, judged, reported}
 use Rattle.serial.specs.Runs.{Came, kept_of, kept_after, answers, first_came, told_at, messages, JoinedListsToldWhole}
-use Rattle.serial.proofs.Truths.{is_so}
-
-so_false : (b : Bool) → (T b → ⊥) → b ≡ false
-so_false true t = absurd (t tt)
-so_false false t = refl
+use Rattle.serial.proofs.Truths.{so, is_so}
 
 -- what was kept of the last, and one more, is what is kept of all and that one
 pub last_last : {X : Type 0} (n : ℕ) (zs : List X) (y : X) → 1 ≤ n → last n (last n zs ++ y ∷ []) ≡ last n (zs ++ y ∷ [])
@@ -153,8 +149,8 @@ module _ {M : Type 0} (f : Format M) (law : LawfulFormat f) where
         let ks : List Kept = last f.size (kepts done ++ kepts pre) in
         let lc : length (pairs_came pre) ≡ length pre = length-map pre (λ x. x.pair) in
         cond-false (f.framed (pairs_of ks)) _ _
-        (so_false (f.framed (pairs_of ks))
-        (λ m. within_list ds (pairs_came pre) (pairs_came post) all t (omega arith) (omega arith) (subst (λ (ps : List Pair). T (f.framed ps)) (shown pre) m)))
+        (false_from_ne_true (f.framed (pairs_of ks))
+        (λ e. within_list ds (pairs_came pre) (pairs_came post) all t (omega arith) (omega arith) (subst (λ (ps : List Pair). T (f.framed ps)) (shown pre) (so (f.framed (pairs_of ks)) e))))
 
     walk : (pre post : List Came) (x : Came) (ks : List Kept) (l : List Pair) → T (f.lawful l) → pairs_came (pre ++ x ∷ post) ≡ l → Like ks (kepts done ++ kepts pre)
         → answers f ks (x ∷ post) ≡ replicate (length post) None ++ told_at (first_came (pre ++ x ∷ post)) (f.told l) ∷ []

@@ -1,5 +1,5 @@
--- A test that is passed, in both of its forms.
-use Rattle.std.proofs.Common.{◌≡◌, Bool, true, false, T, sym, refl}
+-- A test that is passed, in both of its forms, and an answer that is given just where a test is passed.
+use Rattle.std.proofs.Common.{◌≡◌, Bool, true, false, cond, T, Some, None, is_some, sym, refl}
 use Rattle.std.proofs.lemmas.Bool.{true≢false}
 
 pub so : (b : Bool) → b ≡ true → T b
@@ -9,3 +9,7 @@ so false e = absurd (true≢false (sym e))
 pub is_so : (b : Bool) → T b → b ≡ true
 is_so true t = refl
 is_so false t = absurd t
+
+pub some_told : {M : Type 0} (b : Bool) (m : M) → b ≡ is_some (cond b (Some m) None)
+some_told true m = refl
+some_told false m = refl

@@ -3,22 +3,22 @@ ghost use Rattle.std.specs.Prelude.{◌≡◌, ◌+◌, ◌-◌, ◌<◌, ◌≤
 
 use std::marker::Model;
 
-// What is kept stands from `start` up to `end`. A row that is longer than what is kept lets it move on by one at each push, and
-// back to the front only now and then.
+// The `len` things kept stand from `start` on. A row that is longer lets them move on by one at each push, and back to the
+// front only now and then.
 #[derive(Drop)]
 pub(crate) struct Recent<T> {
     row: [T; 64],
     start: usize,
-    end: usize,
+    len: usize,
 }
 
 // Clauses see what is kept, oldest first.
 impl<T> Model for Recent<T> {
     ghost Value = { List T };
 
-    ghost view = { λ r. drop r.start (take r.end r.row) };
+    ghost view = { λ r. drop r.start (take (r.start + r.len) r.row) };
 
-    ghost invariant = { λ r. (r.start ≤ r.end) × (r.end ≤ 64) × (r.end < r.start + 64) };
+    ghost invariant = { λ r. (r.start + r.len ≤ 64) × (r.len < 64) };
 }
 
 // Moves what stands from `from` on to the front.
@@ -39,7 +39,7 @@ impl<T: Copy> Recent<T> {
         Recent {
             row: [blank; 64],
             start: 0,
-            end: 0,
+            len: 0,
         }
     }
 
@@ -47,13 +47,13 @@ impl<T: Copy> Recent<T> {
         ensures { self.new ≡ [] }
     {
         self.start = 0;
-        self.end = 0;
+        self.len = 0;
     }
 
     pub(crate) fn as_slice(&self) -> &[T]
         ensures { result.now ≡ self.now }
     {
-        &self.row[..self.end][self.start..]
+        &self.row[..self.start + self.len][self.start..]
     }
 
     // Keeps one thing more, and of all the last `most`.
@@ -62,15 +62,16 @@ impl<T: Copy> Recent<T> {
         requires few { most < 64 }
         ensures { self.new ≡ last most (self.old ++ x ∷ []) }
     {
-        if self.end == 64 {
+        if self.start + self.len == 64 {
             to_front(&mut self.row, self.start);
-            self.end -= self.start;
             self.start = 0;
         }
-        self.row[self.end] = x;
-        self.end += 1;
-        if self.end - self.start > most {
-            self.start = self.end - most;
+        self.row[self.start + self.len] = x;
+        if self.len < most {
+            self.len += 1;
+        } else {
+            self.start += self.len + 1 - most;
+            self.len = most;
         }
     }
 }

@@ -18,7 +18,7 @@ pub struct Window<F> {
 
 impl<F: SerialFormat> Window<F> {
     ghost use Rattle.serial.specs.Runs.{JoinedListsToldWhole};
-    ghost use Rattle.serial.specs.Windows.{last, kept, reported};
+    ghost use Rattle.serial.specs.Windows.{last, kept, first_place, reported};
 
     // A window that keeps nothing yet. Lawful lists that are joined will be told whole by it, and nothing else.
     pub fn new() -> Window<F>
@@ -44,13 +44,23 @@ impl<F: SerialFormat> Window<F> {
         self.places.clear();
     }
 
+    // The place of the oldest frame kept.
+    fn first_place(&self) -> u32
+        ensures { result ≡ first_place (kept self.now) }
+    {
+        self.places.as_slice().first().copied().unwrap_or(0)
+    }
+
     // What the pairs kept say at an event.
     fn judge(&self, event: u32) -> Option<SerialReport<F::Message>>
         ensures { result ≡ reported F.SerialFormat.meaning (kept self.now) event }
     {
         let pairs = self.pairs.as_slice();
-        let place = *self.places.as_slice().first()?;
-        F::matches(pairs).then(|| SerialReport::judged(F::message(pairs), place, event))
+        F::matches(pairs).then(|| SerialReport::judged(
+            F::message(pairs),
+            self.first_place(),
+            event,
+        ))
     }
 
     // Takes the pair of a frame with the frame's place, at the event that ended the frame.

@@ -1,5 +1,5 @@
 -- The law of the format of two pairs.
-use Rattle.std.specs.Prelude.{◌≡◌, ℕ, ◌+◌, ◌<◌, Bool, true, false, cond, not, T, List, ◌++◌, length, take, drop, is_some, Some, None, ◌==◌, slice_index_or, refl}
+use Rattle.std.specs.Prelude.{◌≡◌, ℕ, ◌+◌, ◌<◌, true, not, T, List, ◌++◌, length, take, drop, ◌==◌, slice_index_or}
 use Rattle.std.proofs.Common.{sym, ap, ◌∙◌, subst, lit<, lit≤}
 use Rattle.std.proofs.Math.Nat.{le_antisymm, le-pred_of_lt}
 use Rattle.std.proofs.Math.Numerals.{add-one-le}
@@ -8,7 +8,7 @@ use Rattle.serial.specs.declared.pair.Pair.{Pair}
 use Rattle.serial.specs.Pairs.{blank}
 use Rattle.serial.specs.Format.{LawfulFormat}
 use Rattle.serial.proofs.Joined.{Inside, apart_from, stretch_at}
-use Rattle.serial.proofs.Truths.{so, is_so}
+use Rattle.serial.proofs.Truths.{so, is_so, some_told}
 use Rattle.serial_tests.specs.Doublets.{framed, lawful, doublet}
 
 in_length : (ps : List Pair) → framed ps ≡ true → length ps ≡ 2
@@ -32,10 +32,6 @@ inside l rest t i p h m =
     stretch_at 2 i 0 l rest (in_length l parts.0) (subst (λ (j : ℕ). j + 0 < 2) (sym one) (lit< tt))
     ∙ ap (λ (j : ℕ). slice_index_or l (j + 0) blank) one in
     both_ways (slice_index_or s 0 blank).high (ap (λ (q : Pair). q.high) same ∙ not-true (slice_index_or l 1 blank).high parts.1) set
-
-some_told : (b m : Bool) → b ≡ is_some (cond b (Some m) None)
-some_told true m = refl
-some_told false m = refl
 
 pub doublet_lawful : LawfulFormat doublet
 doublet_lawful = record {
