@@ -43,7 +43,7 @@ pub(crate) fn number(pairs: &[Pair], at: &[Position]) -> u16
     at.iter().fold(0, |n, position| (n << 1) + u16::from(position.read(pairs)))
 }
 
-// The same of at most eight bits.
+// The same of at most eight bits, which always fit.
 pub(crate) fn byte(pairs: &[Pair], at: &[Position]) -> u8
     requires { length at.now ≤ 8 }
     ensures { result ≡ spelled pairs.now at.now }
@@ -70,7 +70,7 @@ impl<const GROUPS: usize, const WIDTH: usize> Layout<GROUPS, WIDTH> {
             && each_is(false, pairs, self.zeros)
     }
 
-    // The numbers that the check runs over.
+    // The numbers that the check runs over. Each format runs a check of its own over them.
     pub(crate) fn groups(&self, pairs: &[Pair]) -> [u8; GROUPS]
         requires { WIDTH ≤ 8 }
         ensures { result ≡ map (spelled pairs.now) (layout_of self.now).covered }
