@@ -13,9 +13,8 @@ use Rattle.receiver.specs.declared.answer.Call.{Call}
 use Rattle.receiver.specs.declared.answer.Answer.{Answer}
 use Rattle.receiver.specs.declared.answer.Answer.TheVariants.{Stepped, Refused}
 use Rattle.receiver.specs.declared.answer.Closing.{Closing}
-use Rattle.receiver.specs.declared.channel.Channel.{Channel}
-use Rattle.receiver.specs.Standing.{state_of, settings_of, ruled}
-use Rattle.receiver.specs.Units.{Setup, setup, UnitState, channel, new, answer, after, figures}
+use Rattle.receiver.specs.Standing.{ChannelStanding, ruled}
+use Rattle.receiver.specs.Units.{Setup, setup, UnitState, channel, new, fed, answer, after, figures}
 
 abbrev pub refusal_number : StepRefusal → ℕ
 refusal_number NoEvent = 7
@@ -27,13 +26,17 @@ pub record Standing : Type 0 where
   pub state : UnitState
 
 -- the unit that is meant by what is left of each list, and by both channels
-abbrev pub standing_of : {F G : Type 0} → List Event → List Event → Channel F → Channel G → Standing
+abbrev pub standing_of : List Event → List Event → ChannelStanding → ChannelStanding → Standing
 standing_of xs ys a b =
     record {
-      settings_a = settings_of a;
-      settings_b = settings_of b;
-      state = record { left_a = xs; left_b = ys; channel_a = state_of a; channel_b = state_of b };
+      settings_a = a.settings;
+      settings_b = b.settings;
+      state = record { left_a = xs; left_b = ys; channel_a = a.state; channel_b = b.state };
     }
+
+-- a channel after the first event of a list, if there is one, where its format means this
+abbrev pub fed_by : {M : Type 0} → Format M → ChannelStanding → List Event → ChannelStanding
+fed_by f c es = record { settings = c.settings; state = fed (ruled c.settings f) c.state es }
 
 -- a new unit of these lists, set up so
 abbrev pub standing_new : Settings → Settings → (Side → List Event) → Standing

@@ -2,6 +2,7 @@
 use pulses::decoder::Decoder;
 use pulses::frame::FrameRow;
 use serial::window::Window;
+use std::marker::Model;
 
 // The latest frame is there as long as no fault of the pulses came after it.
 #[derive(Drop)]
@@ -11,6 +12,15 @@ pub struct Channel<F> {
     latest: Option<FrameRow>,
     frames: u32,
     faults: u32,
+}
+
+// Clauses see how the channel is set up, and its state.
+impl<F> Model for Channel<F> {
+    ghost use Rattle.receiver.specs.Standing.{ChannelStanding, channel_of};
+
+    ghost Value = { ChannelStanding };
+
+    ghost view = { λ c. channel_of c.decoder c.window c.latest c.frames c.faults };
 }
 
 pub mod stepping;

@@ -2,9 +2,9 @@
 ghost use Rattle.std.specs.Prelude.{◌≡◌, [], MatchResult};
 ghost use Rattle.model.specs.Events.{rest};
 ghost use Rattle.receiver.specs.declared.answer.StepRefusal.TheVariants.{NoEvent};
-ghost use Rattle.receiver.specs.Channels.{fresh};
-ghost use Rattle.receiver.specs.Standing.{state_of, settings_of, ruled};
-ghost use Rattle.receiver.specs.Units.{TellsFirst, fed, figures};
+ghost use Rattle.receiver.specs.Standing.{channel_new, ruled};
+ghost use Rattle.receiver.specs.Receiving.{fed_by};
+ghost use Rattle.receiver.specs.Units.{TellsFirst, figures};
 
 use crate::answer::{Figures, Reports, StepRefusal};
 use crate::channel::Channel;
@@ -29,8 +29,7 @@ impl<S: EdgeSource, F: SerialFormat> FedChannel<S, F> {
     // A newly prepared channel beside its source.
     pub fn new(feed: Feed<S>) -> FedChannel<S, F>
         ensures source { result.source ≡ feed.source }
-        ensures new { state_of result.channel ≡ fresh }
-        ensures settings_kept { settings_of result.channel ≡ feed.settings }
+        ensures new { result.channel ≡ channel_new feed.settings }
     {
         FedChannel {
             source: feed.source,
@@ -40,10 +39,9 @@ impl<S: EdgeSource, F: SerialFormat> FedChannel<S, F> {
 
     // The channel is given the first event of its source: the event's time, and what the channel reports.
     pub fn step(&mut self) -> Result<(u64, Reports<F::Message>), StepRefusal>
-        ensures answer { MatchResult result (λ x. TellsFirst (ruled (settings_of self.old.channel) F.meaning) (state_of self.old.channel) (S.events self.old.source) x.0 x.1) (λ e. (S.events self.old.source ≡ []) × (e ≡ NoEvent)) }
+        ensures answer { MatchResult result (λ x. TellsFirst (ruled self.old.channel.settings F.meaning) self.old.channel.state (S.events self.old.source) x.0 x.1) (λ e. (S.events self.old.source ≡ []) × (e ≡ NoEvent)) }
         ensures left { S.events self.new.source ≡ rest (S.events self.old.source) }
-        ensures channel { state_of self.new.channel ≡ fed (ruled (settings_of self.old.channel) F.meaning) (state_of self.old.channel) (S.events self.old.source) }
-        ensures settings_stay { settings_of self.new.channel ≡ settings_of self.old.channel }
+        ensures channel { self.new.channel ≡ fed_by F.meaning self.old.channel (S.events self.old.source) }
     {
         let event = self.source.take().ok_or(StepRefusal::NoEvent)?;
         let reports = self.channel.step(event).unwrap();
@@ -54,7 +52,7 @@ impl<S: EdgeSource, F: SerialFormat> FedChannel<S, F> {
     pub fn close(self) -> Figures
     where
         S: Drop,
-        ensures { result ≡ figures (state_of self.channel) }
+        ensures { result ≡ figures self.channel.state }
     {
         let FedChannel { source: _, channel } = self;
         channel.figures()

@@ -2,9 +2,9 @@ ghost use Rattle.std.specs.Prelude.{◌≡◌, ◌^◌, ◌<◌, ◌≤◌, IfOk
 ghost use Rattle.model.specs.Events.{time_of};
 ghost use Rattle.pulses.specs.declared.outcome.StepRefusal.TheVariants.{Late};
 ghost use Rattle.pulses.specs.Steps.{Proper};
-ghost use Rattle.receiver.specs.Channels.{fresh, given, reports, reading, reading_of};
+ghost use Rattle.receiver.specs.Channels.{reading, reading_of};
 ghost use Rattle.receiver.specs.Units.{figures};
-ghost use Rattle.receiver.specs.Standing.{state_of, settings_of, ruled};
+ghost use Rattle.receiver.specs.Standing.{channel_new, reports_of, given_to};
 
 use super::Channel;
 use crate::answer::{Figures, Reports};
@@ -34,8 +34,7 @@ fn reading(settings: Settings, row: FrameRow) -> u16
 impl<F: SerialFormat> Channel<F> {
     // A channel that has seen no event.
     pub fn prepare(settings: Settings) -> Channel<F>
-        ensures new { state_of result ≡ fresh }
-        ensures settings_kept { settings_of result ≡ settings }
+        ensures new { result ≡ channel_new settings }
     {
         Channel {
             decoder: Decoder::prepare(settings),
@@ -48,9 +47,8 @@ impl<F: SerialFormat> Channel<F> {
 
     // What the channel reports at an event, and what it is then. An event of a time beyond the limit is refused and changes nothing.
     pub fn step(&mut self, event: Event) -> Result<Reports<F::Message>, StepRefusal>
-        ensures answer { MatchResult result (λ o. (time_of event < 2 ^ 40) × (o ≡ reports (ruled (settings_of self.old) F.meaning) (state_of self.old) event) × (state_of self.new ≡ given (ruled (settings_of self.old) F.meaning) (state_of self.old) event)) (λ e. (2 ^ 40 ≤ time_of event) × (e ≡ Late) × (state_of self.new ≡ state_of self.old)) }
+        ensures answer { MatchResult result (λ o. (time_of event < 2 ^ 40) × (o ≡ reports_of F.meaning self.old event) × (self.new ≡ given_to F.meaning self.old event)) (λ e. (2 ^ 40 ≤ time_of event) × (e ≡ Late) × (self.new ≡ self.old)) }
         ensures nibbles_below_sixteen { IfOk result (λ o. Proper o.pulse) }
-        ensures settings_stay { settings_of self.new ≡ settings_of self.old }
     {
         let pulse = self.decoder.step(event)?;
         let serial = match pulse {
@@ -73,14 +71,14 @@ impl<F: SerialFormat> Channel<F> {
 
     // The reading of the latest frame, if no fault of the pulses came after it.
     pub(crate) fn reading(&self) -> Option<u16>
-        ensures { result ≡ reading_of (settings_of self.now) (state_of self.now).latest }
+        ensures { result ≡ reading_of self.now.settings self.now.state.latest }
     {
         self.latest.map(|row| reading(self.decoder.settings(), row))
     }
 
     // How many frames and faults of the pulses the channel has given.
     pub fn figures(&self) -> Figures
-        ensures { result ≡ figures (state_of self.now) }
+        ensures { result ≡ figures self.now.state }
     {
         Figures {
             frames: self.frames,
