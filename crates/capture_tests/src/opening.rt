@@ -1,7 +1,9 @@
-use captures::absolute::AbsoluteLog;
+use captures::capture::Capture;
 use captures::counter::CounterCapture;
+use captures::events::Timing;
 use model::event::Event;
 use model::source::EdgeSource;
+use records::record::{Counter, Log};
 use std::process::Abort;
 use unitfile::summary::{Span, Summary, summary_of};
 
@@ -25,67 +27,63 @@ fn lost(place: u32, time: u64) -> Event {
     Event::Break { place, time }
 }
 
-fn counter(rt: &impl Abort, bytes: &[u8], events: &[Event]) {
-    gives(rt, CounterCapture::open(bytes), events);
-}
-
-fn log(rt: &impl Abort, bytes: &[u8], events: &[Event]) {
-    gives(rt, AbsoluteLog::open(bytes), events);
+fn opened<K: Timing>(rt: &impl Abort, bytes: &[u8], events: &[Event]) {
+    gives(rt, Capture::<K>::open(bytes), events);
 }
 
 #[test]
 fn counter_captures(rt: HostRuntime) {
-    counter(&rt, b"", &[]);
-    counter(&rt, b"SC\x12\x34", &[edge(0, 0x1234)]);
-    counter(&rt, b"SO\x00\x00SO\x00\x00SC\x00\x05", &[edge(2, 131_077)]);
-    counter(
+    opened::<Counter>(&rt, b"", &[]);
+    opened::<Counter>(&rt, b"SC\x12\x34", &[edge(0, 0x1234)]);
+    opened::<Counter>(&rt, b"SO\x00\x00SO\x00\x00SC\x00\x05", &[edge(2, 131_077)]);
+    opened::<Counter>(
         &rt,
         b"SC\x00\x05SO\x00\x00SC\x00\x05",
         &[edge(0, 5), edge(2, 65_541)],
     );
-    counter(
+    opened::<Counter>(
         &rt,
         b"SC\x00\x05SC\x00\x05SC\x00\x06",
         &[edge(0, 5), lost(1, 5), edge(2, 6)],
     );
-    counter(
+    opened::<Counter>(
         &rt,
         b"SC\x00\x05SC\x00\x04SC\x00\x05",
         &[edge(0, 5), lost(1, 5), lost(2, 5)],
     );
-    counter(
+    opened::<Counter>(
         &rt,
         b"SL\x00\x00SC\x00\x00SL\x00\x00",
         &[lost(0, 0), edge(1, 0), lost(2, 0)],
     );
-    counter(
+    opened::<Counter>(
         &rt,
         b"SC\x00\x05SO\x00\x00SL\x00\x00SC\x00\x01",
         &[edge(0, 5), lost(2, 5), edge(3, 65_537)],
     );
-    counter(&rt, b"SO\x00\x00SO\x00\x00", &[]);
-    counter(&rt, b"SC\x00\x05SX\x00\x00", &[]);
+    opened::<Counter>(&rt, b"SO\x00\x00SO\x00\x00", &[]);
+    opened::<Counter>(&rt, b"SC\x00\x05SX\x00\x00", &[]);
 }
 
 #[test]
 fn absolute_logs(rt: HostRuntime) {
-    log(&rt, b"", &[]);
-    log(
+    opened::<Log>(&rt, b"", &[]);
+    opened::<Log>(
         &rt,
         b"SA\x00\xff\xff\xff\xff\xff",
         &[edge(0, 1_099_511_627_775)],
     );
-    log(
+    opened::<Log>(
         &rt,
         b"SL\x00\x00\x00\x00\x00\x00SA\x00\x00\x00\x00\x01\x02",
         &[lost(0, 0), edge(1, 258)],
     );
-    log(
+    opened::<Log>(
         &rt,
         b"SA\x00\x00\x00\x00\x01\x02SA\x00\x00\x00\x00\x01\x02",
         &[edge(0, 258), lost(1, 258)],
     );
-    log(&rt, b"SA\x01\x00\x00\x00\x00\x00", &[]);
+    opened::<Log>(&rt, b"SA\x01\x00\x00\x00\x00\x00", &[]);
 }
 
 #[test]

@@ -1,3 +1,4 @@
+use model::side::Side;
 use std::alloc::{AllocError, Global};
 use std::process::Abort;
 use std::test::Fail;
@@ -33,17 +34,15 @@ fn bytes_of(heap: Global, of: &Contents, added: u32) -> Result<Vec<u8>, AllocErr
 
 // The answer to a file: its number, 0 where it is accepted, its channel and its record.
 fn answer(bytes: &[u8]) -> (u16, char, u32) {
-    match UnitFile::read(bytes) {
-        Ok(_) => (0, '-', 0),
-        Err(why) => {
-            let letter = match why.side() {
-                Some(model::side::Side::A) => 'A',
-                Some(model::side::Side::B) => 'B',
-                None => '-',
-            };
-            (why.number(), letter, why.place())
-        }
-    }
+    let Err(why) = UnitFile::read(bytes) else {
+        return (0, '-', 0);
+    };
+    let letter = match why.side() {
+        Some(Side::A) => 'A',
+        Some(Side::B) => 'B',
+        None => '-',
+    };
+    (why.number(), letter, why.place())
 }
 
 fn draft<'a>(k_a: u32, n_a: u8, a: &'a [u8], k_b: u32, n_b: u8, b: &'a [u8]) -> Contents<'a> {

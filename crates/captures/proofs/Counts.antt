@@ -3,42 +3,28 @@ use Rattle.std.proofs.Common.{◌≡◌, ℕ, suc, ◌+◌, ◌*◌, ◌/◌, �
 use Rattle.records.specs.Kinds.{Kind}
 use Rattle.records.specs.Kinds.{Counter, Log}
 use Rattle.records.specs.declared.record.Record.{Record}
-use Rattle.records.specs.Records.{size, records, fours, eights}
+use Rattle.records.specs.Records.{size, records}
 use Rattle.records.specs.Checked.{checked}
+use Rattle.std.specs.Prelude.{IsNone}
+use Rattle.records.specs.declared.checking.CheckRefusal.{CheckRefusal}
 use Rattle.captures.specs.declared.events.Stamp.{Stamp}
 use Rattle.captures.specs.declared.events.Stamp.TheVariants.{Timed, Lost, Wrapped}
 use Rattle.captures.specs.Times.{stamps, wraps_after, record_count, unless_refused, events_from, last_after, all_stamps, capture_events}
 use Rattle.captures.specs.Stamps.{stamp_of}
+use Rattle.records.proofs.Counts.{length_records}
 use Rattle.captures.proofs.Lawfuls.{stamps_accepted}
 
 pub length_stamps : (kind : Kind) (w : ℕ) (rs : List Record) → length (stamps kind w rs) ≡ length rs
 length_stamps kind w [] = refl
 length_stamps kind w (r ∷ rs) = ap suc (length_stamps kind (wraps_after w (stamp_of kind w r)) rs)
 
-length_fours : (xs : List ℕ) → length (fours xs) ≡ length xs / 4
-length_fours [] = refl
-length_fours (a ∷ []) = refl
-length_fours (a ∷ b ∷ []) = refl
-length_fours (a ∷ b ∷ c ∷ []) = refl
-length_fours (a ∷ b ∷ c ∷ d ∷ more) = let e = length_fours more in omega arith
+none_there : (o : Option CheckRefusal) → IsNone o → o ≡ None
+none_there None e = refl
+none_there (Some x) e = let z : ◌≡◌ {A = ℕ} 0 1 = cc in absurd (omega arith)
 
-length_eights : (xs : List ℕ) → length (eights xs) ≡ length xs / 8
-length_eights [] = refl
-length_eights (a ∷ []) = refl
-length_eights (a ∷ b ∷ []) = refl
-length_eights (a ∷ b ∷ c ∷ []) = refl
-length_eights (a ∷ b ∷ c ∷ d ∷ []) = refl
-length_eights (a ∷ b ∷ c ∷ d ∷ e ∷ []) = refl
-length_eights (a ∷ b ∷ c ∷ d ∷ e ∷ f ∷ []) = refl
-length_eights (a ∷ b ∷ c ∷ d ∷ e ∷ f ∷ g ∷ []) = refl
-length_eights (a ∷ b ∷ c ∷ d ∷ e ∷ f ∷ g ∷ h ∷ more) = let k = length_eights more in omega arith
-
-length_records : (kind : Kind) (xs : List ℕ) → length (records kind xs) ≡ length xs / size kind
-length_records Counter xs = length_fours xs
-length_records Log xs = length_eights xs
-
-pub counted : (kind : Kind) (xs : List ℕ) → checked kind xs ≡ None → length xs / size kind ≡ record_count kind xs
-counted kind xs e = sym (length_records kind xs) ∙ sym (length_stamps kind 0 (records kind xs)) ∙ ap length (stamps_accepted kind xs e)
+pub counted : (kind : Kind) (xs : List ℕ) → IsNone (checked kind xs) → length xs / size kind ≡ record_count kind xs
+counted kind xs e =
+    sym (length_records kind xs) ∙ sym (length_stamps kind 0 (records kind xs)) ∙ ap length (stamps_accepted kind xs (none_there (checked kind xs) e))
 
 -- a capture has no more records than its bytes make
 count_most : (kind : Kind) (xs : List ℕ) → record_count kind xs ≤ length xs / size kind

@@ -7,7 +7,7 @@ ghost use Rattle.captures.specs.Times.{ahead, pending};
 ghost use Rattle.captures.specs.Rules.{EventsByRule};
 
 use crate::events::{Cursor, Timing};
-use crate::part::{PartRefusal, part, record_count};
+use crate::part::PartRefusal;
 use crate::sound::Sound;
 use model::event::Event;
 use model::source::EdgeSource;
@@ -40,14 +40,15 @@ impl<'a, K: Timing> Capture<'a, K> {
     pub fn record_count(bytes: &[u8]) -> u32
         ensures { result ≡ record_count K.kind bytes.now }
     {
-        record_count::<K>(bytes)
+        Sound::<K>::check(bytes).map_or(0, |sound| sound.record_count())
     }
 
     // The records from one place through another, of an accepted capture.
     pub fn part(bytes: &'a [u8], first: u32, last: u32) -> Result<&'a [u8], PartRefusal>
         ensures { MatchResult result (λ p. (has_part K.kind bytes.now first last ≡ true) × (p.now ≡ part_of K.kind bytes.now first last)) (λ _. has_part K.kind bytes.now first last ≡ false) }
     {
-        part::<K>(bytes, first, last)
+        let sound = Sound::<K>::check(bytes).map_err(|_| PartRefusal::NoSuchPart)?;
+        sound.part(first, last)
     }
 
     // A source of the capture's events: of none where the check refuses it.

@@ -44,7 +44,7 @@ fn describe<K: Timing>(
     let letter = letter(side);
     let k = channel.settings.calibration();
     let n = channel.settings.nibbles();
-    let records = Capture::<K>::record_count(channel.capture.bytes);
+    let records = channel.capture.record_count();
     let summary = summary_of(Capture::open_sound(&channel.capture));
     let edges = summary.edges;
     let breaks = summary.breaks;

@@ -3,7 +3,7 @@ ghost use Rattle.std.specs.Prelude.{◌≡◌, Some, None, MatchResult};
 ghost use Rattle.records.specs.Checked.{checked, check_number, check_record};
 ghost use Rattle.records.specs.Verdicts.{RefusedByTheFirstBadRecord};
 
-use crate::record::{Flaw, MOST_BYTES, Recording};
+use crate::record::{Flaw, MOST_BYTES, Recording, Records};
 
 // Why a capture is refused.
 #[derive(Clone, Copy, PartialEq, Eq, Debug)]
@@ -57,14 +57,11 @@ fn verdict<K: Recording>(bytes: &[u8]) -> Result<(), CheckRefusal>
     if bytes.len() > MOST_BYTES || bytes.len() % K::SIZE != 0 {
         return Err(CheckRefusal::Length);
     }
-    let mut rest = bytes;
-    let mut place = 0;
-    while let Some(cut) = K::first_record(rest) {
-        if let Some(flaw) = K::flaw(cut.record) {
+    for (place, record) in Records::<K>::of(bytes).enumerate() {
+        if let Some(flaw) = K::flaw(record) {
+            let place = place as u32;
             return Err(CheckRefusal::Flawed { place, flaw });
         }
-        rest = cut.rest;
-        place += 1;
     }
     Ok(())
 }

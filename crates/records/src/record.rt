@@ -1,9 +1,11 @@
 // The records of both kinds of capture, cut out of their bytes.
 ghost use Rattle.std.specs.Prelude.{◌≡◌, ◌+◌, ◌^◌, ◌<◌, ℕ, List, [], ◌∷◌, length, refl, MatchOption};
+ghost use Rattle.std.specs.Iterator.{YieldsFirst, item_count};
 ghost use Rattle.records.specs.Kinds.{Kind, Counter as OfCounter, Log as OfLog};
 ghost use Rattle.records.specs.Records.{size, records, zero_filler, timely, flaw_of};
 
 use model::event::TIME_LIMIT;
+use std::marker::PhantomData;
 
 // The most bytes that a capture may have.
 pub const MOST_BYTES: usize = 24_576;
@@ -52,6 +54,38 @@ pub trait Recording: Copy {
     ghost size_is_the_kinds: { SIZE ≡ size kind };
 
     ghost some_bytes: { 0 < SIZE };
+}
+
+// The records of some bytes, in their order.
+#[derive(Drop)]
+pub(crate) struct Records<'a, K> {
+    rest: &'a [u8],
+    of: PhantomData<K>,
+}
+
+impl<'a, K: Recording> Records<'a, K> {
+    pub(crate) fn of(bytes: &'a [u8]) -> Records<'a, K>
+        ensures { result.rest.now ≡ bytes.now }
+    {
+        Records {
+            rest: bytes,
+            of: PhantomData,
+        }
+    }
+}
+
+impl<'a, K: Recording> Iterator for Records<'a, K> {
+    type Item = Record;
+
+    ghost next_gives = { YieldsFirst (λ s. records K.kind s.rest.now) };
+
+    ghost remaining = { item_count (λ s. records K.kind s.rest.now) };
+
+    fn next(&mut self) -> Option<Record> {
+        let cut = K::first_record(self.rest)?;
+        self.rest = cut.rest;
+        Some(cut.record)
+    }
 }
 
 // Records of four bytes, with the value of a sixteen-bit timer.

@@ -3,10 +3,12 @@ use Rattle.records.specs.Records.{records}
 use Rattle.records.specs.Checked.{first_flaw}
 use Rattle.records.proofs.checking.verdict.Given as goal
 
-abbrev pub invariant-loop-cut : goal.invariant-loop-cut
-invariant-loop-cut g l =
-    (first_flaw g.K.Recording.kind l.place (records g.K.Recording.kind l.rest) ≡ first_flaw g.K.Recording.kind 0 (records g.K.Recording.kind l.bytes))
-    × (l.place + length l.rest ≤ 24576)
-
-abbrev pub decreases-loop-cut : goal.decreases-loop-cut
-decreases-loop-cut g l = length l.rest
+-- the first flaw is among the records that are left, of which the first has the place counted so far
+abbrev pub invariant-loop-place : goal.invariant-loop-place
+invariant-loop-place g l =
+    let kind = g.K.Recording.kind in
+    let left = records kind l.place-iterator.iter.rest.now in
+    (goal.iterator-loop-place g).can_next l.place-iterator
+    × (goal.iterator-loop-place g).is_finite l.place-iterator
+    × (first_flaw kind l.place-iterator.count left ≡ first_flaw kind 0 (records kind l.bytes))
+    × (l.place-iterator.count + length left ≤ 24576)
