@@ -1,5 +1,5 @@
 // Bytes, digits and numbers behind one another.
-ghost use Rattle.std.specs.Prelude.{◌≡◌, ℕ, ◌+◌, ◌^◌, ◌<◌, ◌≤◌, [], ◌∷◌, ◌++◌, map, length, decimal, slice_index};
+ghost use Rattle.std.specs.Prelude.{◌≡◌, ℕ, ◌+◌, ◌<◌, ◌≤◌, [], ◌∷◌, ◌++◌, map, length, decimal, slice_index};
 ghost use Rattle.listing.specs.Lines.{hex_digit};
 
 use itoa::write_digits;
