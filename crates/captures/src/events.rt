@@ -84,8 +84,9 @@ impl<'a> Cursor<'a> {
     }
 
     // The next event ahead, if there is one: the cursor is then behind its record. Wraps are passed over, each once.
+    // The place is counted here and in no iterator, since it is the cursor's: it goes on from one call to the next.
     pub(crate) fn next_event<K: Timing>(&mut self) -> Option<Event>
-        ensures { pending result (ahead K.kind self.new) ≡ ahead K.kind self.old }
+        ensures all { pending result (ahead K.kind self.new) ≡ ahead K.kind self.old }
     {
         while let Some(cut) = K::first_record(self.rest) {
             let place = self.place;

@@ -35,8 +35,9 @@ pub struct Cut<'a> {
     ghost six_bytes: { record.value < 2 ^ 48 },
 }
 
-// A kind of capture, by what its records are.
+// What the records of a kind of capture are.
 pub trait Recording: Copy {
+    // which kind it is
     ghost kind: { Kind };
 
     ghost SIZE: { ℕ };
@@ -44,6 +45,7 @@ pub trait Recording: Copy {
     // The bytes of a record.
     const SIZE: usize;
 
+    // The first record of some bytes, if they are enough.
     fn first_record(bytes: &[u8]) -> Option<Cut<'_>>
         ensures { MatchOption result (records kind bytes.now ≡ []) (λ c. (records kind bytes.now ≡ c.record ∷ records kind c.rest.now) × (length c.rest.now + size kind ≡ length bytes.now)) };
 
@@ -51,8 +53,10 @@ pub trait Recording: Copy {
     fn flaw(of: Record) -> Option<Flaw>
         ensures { result ≡ flaw_of kind of };
 
+    // that this is the size which the kind's records are defined to have
     ghost size_is_the_kinds: { SIZE ≡ size kind };
 
+    // that a capture's length can be divided by it
     ghost some_bytes: { 0 < SIZE };
 }
 
