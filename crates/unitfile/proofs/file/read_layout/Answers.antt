@@ -1,8 +1,7 @@
 use Rattle.std.proofs.Common.{◌≡◌, ap, ◌∙◌, get_or, drop, take, arith}
-use Rattle.std.proofs.lemmas.List.{drop-drop}
 use Rattle.std.proofs.lemmas.Bool.Decides.{nat_tests}
 use Rattle.unitfile.specs.Files.{head_at}
-use Rattle.unitfile.proofs.Heads.{head_a, head_b}
+use Rattle.unitfile.proofs.Heads.{head_a, head_b, captures_behind}
 use Rattle.unitfile.proofs.file.read_layout.Goals as goal
 
 pub returns-then-a-b : goal.returns-then-a-b
@@ -11,10 +10,8 @@ returns-then-a-b c =
     let m = c.in_ok-mark.ensures.cases in
     let a = c.in_ok-head_a.ensures.cases in
     let b = c.in_ok-head_b.ensures.cases in
-    let ha : c.from-a.result ≡ head_at xs 2 = c.from-a.ensures ∙ head_a xs _ (a.0 ∙ ap (take 9) m.1) in
-    let hb : c.from-b.result ≡ head_at xs 11 = c.from-b.ensures ∙ head_b xs _ (b.0 ∙ ap (take 9) (a.1 ∙ ap (drop 9) m.1 ∙ drop-drop 9 2 xs)) in
-    let la = ap (λ h. h.length) ha in
-    let lb = ap (λ h. h.length) hb in
+    let la = ap (λ h. h.length) (c.from-a.ensures ∙ head_a xs _ _ m.1 a.1 _ a.0) in
+    let lb = ap (λ h. h.length) (c.from-b.ensures ∙ head_b xs _ _ m.1 a.1 _ b.0) in
     grind (arith, nat_tests, la, lb, m.2, a.2, b.2, c.if-a-b.true)
 
 pub returns : goal.returns
@@ -23,10 +20,9 @@ returns c =
     let m = c.in_ok-mark.ensures.cases in
     let a = c.in_ok-head_a.ensures.cases in
     let b = c.in_ok-head_b.ensures.cases in
-    let ha : c.from-a.result ≡ head_at xs 2 = c.from-a.ensures ∙ head_a xs _ (a.0 ∙ ap (take 9) m.1) in
-    let behind_a = a.1 ∙ ap (drop 9) m.1 ∙ drop-drop 9 2 xs in
-    let hb : c.from-b.result ≡ head_at xs 11 = c.from-b.ensures ∙ head_b xs _ (b.0 ∙ ap (take 9) behind_a) in
-    let body : c.in_ok-head_b.captures.now ≡ drop 20 xs = b.1 ∙ ap (drop 9) behind_a ∙ drop-drop 9 11 xs in
+    let ha : c.from-a.result ≡ head_at xs 2 = c.from-a.ensures ∙ head_a xs _ _ m.1 a.1 _ a.0 in
+    let hb : c.from-b.result ≡ head_at xs 11 = c.from-b.ensures ∙ head_b xs _ _ m.1 a.1 _ b.0 in
+    let body = captures_behind xs _ _ m.1 a.1 _ b.1 in
     let la = ap (λ h. h.length) ha in
     let lb = ap (λ h. h.length) hb in
     let first = ap (λ ys. get_or ys 0 0) m.0 in
