@@ -5,15 +5,13 @@ ghost use Rattle.captures.specs.Parts.{part_number};
 #[derive(Clone, Copy, PartialEq, Eq, Debug)]
 pub enum PartRefusal {
     // the first place is behind the last, or the last is no record of an accepted capture
-    NoSuchPart,
+    NoSuchPart = 9,
 }
 
 impl PartRefusal {
     pub fn number(self) -> u16
         ensures { result ≡ part_number self }
     {
-        match self {
-            PartRefusal::NoSuchPart => 9,
-        }
+        self as u16
     }
 }

@@ -20,14 +20,7 @@ impl CheckRefusal {
     {
         match self {
             CheckRefusal::Length => 1,
-            CheckRefusal::Flawed {
-                flaw: Flaw::Mark,
-                ..
-            } => 2,
-            CheckRefusal::Flawed {
-                flaw: Flaw::Content,
-                ..
-            } => 3,
+            CheckRefusal::Flawed { flaw, .. } => flaw as u16,
         }
     }
 

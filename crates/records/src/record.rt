@@ -18,13 +18,13 @@ pub struct Record {
     pub value: u64,
 }
 
-// What can be wrong with one record.
+// What can be wrong with one record, under the number that tells it.
 #[derive(Clone, Copy, PartialEq, Eq, Debug)]
 pub enum Flaw {
     // the capture's kind has no such mark
-    Mark,
+    Mark = 2,
     // a filler that is not zero, or a time that is too late
-    Content,
+    Content = 3,
 }
 
 // The first record of some bytes, whose number is of at most six of them, and the bytes behind it.

@@ -55,6 +55,7 @@ impl FileRefusal {
     pub fn number(self) -> u16
         ensures { result ≡ file_number self }
     {
+        // no case carries its number: two of them hold a refusal with one of its own
         match self {
             FileRefusal::Layout => 10,
             FileRefusal::Channel { why, .. } => why.number(),
@@ -67,8 +68,7 @@ impl FileRefusal {
         ensures { result ≡ file_record self }
     {
         match self {
-            FileRefusal::Layout => 0,
-            FileRefusal::Channel { .. } => 0,
+            FileRefusal::Layout | FileRefusal::Channel { .. } => 0,
             FileRefusal::Capture { why, .. } => why.place(),
         }
     }
@@ -79,8 +79,7 @@ impl FileRefusal {
     {
         match self {
             FileRefusal::Layout => None,
-            FileRefusal::Channel { side, .. } => Some(side),
-            FileRefusal::Capture { side, .. } => Some(side),
+            FileRefusal::Channel { side, .. } | FileRefusal::Capture { side, .. } => Some(side),
         }
     }
 }
