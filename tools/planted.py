@@ -1,7 +1,7 @@
 #!/usr/bin/env python3
 """Plants one bug at a time and sees what the prover says: tools/planted.py [CRATE ...], by default all of tools/planted.
 
-Each file tools/planted/CRATE/NAME.edit changes the meaning of the code: a file, a text that stands in it once, and the text
+Each file tools/planted/CRATE/NAME.edit changes the meaning of the code: a file, and texts that stand in it once, each with the text
 that takes its place. The edit is made in a copy of the repository. First the crate itself is proved with it; where that
 succeeds, every crate above it, with programs and tests. A bug that all of them let pass is one that no contract rules out.
 The status is 0 if none survived.
@@ -62,15 +62,18 @@ def tried(copy, crate, edits):
     return {edit: verdicts.get(edit.stem, "BAD EDIT: rt did not come to it") for edit in edits}
 
 
-def field(edit, name):
-    return re.search(rf"^{name}: ?(.*)$", edit.read_text(), re.M).group(1)
+def fields(edit, name):
+    return re.findall(rf"^{name}: ?(.*)$", edit.read_text(), re.M)
 
 
 def refused_above(copy, crate, edit, known):
     """The first crate above that is refused with the edit, or whose program or tests fail; None if there is none."""
-    path = copy / "crates" / crate / field(edit, "file")
+    path = copy / "crates" / crate / fields(edit, "file")[0]
     kept = path.read_text()
-    path.write_text(kept.replace(field(edit, "old"), field(edit, "new"), 1))
+    text = kept
+    for old, new in zip(fields(edit, "old"), fields(edit, "new")):
+        text = text.replace(old, new, 1)
+    path.write_text(text)
     status, said = run(copy, "ci", *above(crate, known))
     path.write_text(kept)
     if status == 0:
