@@ -40,8 +40,10 @@ impl<F: SerialFormat> Channel<F> {
             decoder: Decoder::prepare(settings),
             window: Window::new(),
             latest: None,
-            frames: 0,
-            faults: 0,
+            figures: Figures {
+                frames: 0,
+                faults: 0,
+            },
         }
     }
 
@@ -55,13 +57,13 @@ impl<F: SerialFormat> Channel<F> {
             Outcome::Quiet | Outcome::Skipped => None,
             Outcome::Framed(row) => {
                 self.latest = Some(row);
-                self.frames = self.frames.saturating_add(1);
+                self.figures.frames = self.figures.frames.saturating_add(1);
                 self.window
                     .take(Pair::of_status(row.status), row.place, event.place())
             }
             Outcome::Failed(_) => {
                 self.latest = None;
-                self.faults = self.faults.saturating_add(1);
+                self.figures.faults = self.figures.faults.saturating_add(1);
                 self.window.empty();
                 None
             }
@@ -80,9 +82,6 @@ impl<F: SerialFormat> Channel<F> {
     pub fn figures(&self) -> Figures
         ensures { result ≡ figures self.now.state }
     {
-        Figures {
-            frames: self.frames,
-            faults: self.faults,
-        }
+        self.figures
     }
 }
