@@ -21,14 +21,10 @@ use serial::window::Window;
 fn reading(settings: Settings, row: FrameRow) -> u16
     ensures { result ≡ reading settings row }
 {
-    let [first, second, third, _, _, _] = row.frame().nibbles();
-    let one = u16::from(first);
-    let two = one * 16 + u16::from(second);
-    match settings.nibbles() {
-        1 => one,
-        2 => two,
-        _ => two * 16 + u16::from(third),
-    }
+    let read = usize::from(settings.nibbles().min(3));
+    row.frame().nibbles()[..read]
+        .iter()
+        .fold(0, |code, nibble| (code << 4) | u16::from(*nibble))
 }
 
 impl<F: SerialFormat> Channel<F> {
