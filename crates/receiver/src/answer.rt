@@ -34,13 +34,15 @@ pub enum Subject {
     Reading(Side),
 }
 
+// What is asked of a unit: plain data and no method, because a run is a list of calls.
 #[derive(Clone, Copy, PartialEq, Eq, Debug)]
 pub enum Call {
     Step,
     Look(Subject),
 }
 
-// The answer to a call. A step's refusal is a case of its own, so that one match tells all answers of a run apart.
+// The answer to a call: one case for each way that a call can end. A step's refusal is not nested in a `Result`, since a run's
+// definitions match on the three flat cases.
 #[derive(Clone, Copy, PartialEq, Eq, Debug)]
 pub enum Answer<X, Y> {
     Stepped(Step<X, Y>),
