@@ -34,7 +34,7 @@ pub struct NoRoom<U> {
     pub unit: U,
 }
 
-// The run without its law.
+// The run without its law, which is shown of what this promises: a wrong body is refused here, at the definition that it misses.
 fn make_run<SA: EdgeSource, SB: EdgeSource, FA: SerialFormat, FB: SerialFormat>(
     a: Feed<SA>,
     b: Feed<SB>,
