@@ -1,5 +1,5 @@
 -- A channel is undisturbed: what it reports in any run begins what it reports beside an empty source.
-use Rattle.std.proofs.Common.{◌≡◌, ℕ, Bool, true, false, cond, ltb, List, [], ◌∷◌, ◌++◌, length, Some, sym, refl, ap, ◌∙◌, append_assoc, append-nil, arith}
+use Rattle.std.proofs.Common.{◌≡◌, ℕ, Bool, true, false, cond, ltb, List, [], ◌∷◌, ◌++◌, length, Some, sym, refl, ap, ◌∙◌, append_assoc, append-nil}
 use Rattle.model.specs.declared.event.Event.{Event}
 use Rattle.model.specs.declared.side.Side.{Side}
 use Rattle.model.specs.declared.side.Side.TheVariants.{A as SideA, B as SideB}
@@ -52,8 +52,8 @@ module _ {X Y : Type 0} (s : Setup X Y) where
   refused_at_the_end [] (y ∷ ys) c c' SideB h = cc
   refused_at_the_end (x ∷ xs) (y ∷ ys) c c' d h = absurd (either (ltb (time_of y) (time_of x)) h) where
     either : (b : Bool) → step_answer s (unit_of (x ∷ xs) (y ∷ ys) c c') (cond b (Some SideB) (Some SideA)) ≡ Refused NoEvent → ⊥
-    either true k = let z : ◌≡◌ {A = ℕ} 0 1 = cc in omega arith
-    either false k = let z : ◌≡◌ {A = ℕ} 0 1 = cc in omega arith
+    either true k = cc
+    either false k = cc
 
   none_left : (u : UnitState) (d : Side) → answer s u StepCall ≡ Refused NoEvent → left u d ≡ []
   none_left u d h = refused_at_the_end u.left_a u.left_b u.channel_a u.channel_b d h

@@ -60,8 +60,8 @@ module _ {M : Type 0} (rules : Rules M) (some : 1 ≤ rules.format.size) where
 
   serial_heard : (c : ChannelState) (all : List Kept) → c.kept ≡ last rules.format.size all
       → (es : List Event) (before after : List (Entry M)) (x : Entry M) → heard rules c es ≡ before ++ x ∷ after → ToldAt all (outcomes_of before) x
-  serial_heard c all k [] [] after x is = absurd (let z : ◌≡◌ {A = ℕ} 0 1 = cc in omega arith)
-  serial_heard c all k [] (b ∷ before) after x is = absurd (let z : ◌≡◌ {A = ℕ} 0 1 = cc in omega arith)
+  serial_heard c all k [] [] after x is = cc
+  serial_heard c all k [] (b ∷ before) after x is = cc
   serial_heard c all k (e ∷ es) [] after x is =
       let here : record { event = e; said = reports rules c e } ≡ x = cc in
       let o : Outcome = outcome_of rules c e in
@@ -152,13 +152,13 @@ no_fault : {p : ℕ} {o : Outcome} {z : PulseState} → ((f : Fault) → o ≡ F
 no_fault none = record { told = λ f h. absurd (none f h) }
 
 quiet_none : (f : Fault) → Quiet ≡ Failed f → ⊥
-quiet_none f h = let z : ◌≡◌ {A = ℕ} 0 1 = cc in omega arith
+quiet_none f h = cc
 
 skipped_none : (f : Fault) → Skipped ≡ Failed f → ⊥
-skipped_none f h = let z : ◌≡◌ {A = ℕ} 0 1 = cc in omega arith
+skipped_none f h = cc
 
 framed_none : {r : FrameRow} (f : Fault) → Framed r ≡ Failed f → ⊥
-framed_none f h = let z : ◌≡◌ {A = ℕ} 0 1 = cc in omega arith
+framed_none f h = cc
 
 -- a choice between two steps
 either : {p : ℕ} (b : Bool) {x y : Stepped} → ToldStep p x → ToldStep p y → ToldStep p (cond b x y)

@@ -45,8 +45,8 @@ long_enough c m x h r =
     omega (arith, r.lo)
 
 got : (c t : ℕ) (xs : List NibblePulse) {es es' : List Event} → AllByRecursion (Measures c) xs → OneMoved c es es' → es ≡ edges t xs → Got c t xs es'
-got c t [] r (here m tick near) e = absurd (let z : ◌≡◌ {A = ℕ} 0 1 = cc in omega arith)
-got c t (x ∷ []) r (here m tick near) e = absurd (let z : ◌≡◌ {A = ℕ} 0 1 = cc in omega arith)
+got c t [] r (here m tick near) e = cc
+got c t (x ∷ []) r (here m tick near) e = cc
 got c t (x ∷ y ∷ zs) r (here {p} {t = w} {t' = w'} {e = d} {es = ds} m tick near) e =
     let e0 : p ≡ x.place = cc in
     let e1 : w ≡ t + x.interval = cc in
@@ -64,7 +64,7 @@ got c t (x ∷ y ∷ zs) r (here {p} {t = w} {t' = w'} {e = d} {es = ds} m tick 
       shifted = between m tick (omega arith, omega arith) (omega arith);
       ends = ap (λ (i : ℕ). finish i zs) tb;
     }
-got c t [] r (later i) e = absurd (let z : ◌≡◌ {A = ℕ} 0 1 = cc in omega arith)
+got c t [] r (later i) e = cc
 got c t (x ∷ xs) r (later {e = d} {es = ds} {es' = ds'} i) e =
     let e0 : d ≡ Edge x.place (t + x.interval) = cc in
     let e1 : ds ≡ edges (t + x.interval) xs = cc in
