@@ -10,6 +10,7 @@ use Rattle.receiver.specs.declared.answer.Answer.{Answer}
 use Rattle.receiver.specs.declared.answer.Answer.TheVariants.{Stepped, Refused}
 use Rattle.receiver.specs.declared.answer.Reports.{Reports}
 use Rattle.receiver.specs.declared.answer.Step.TheVariants.{A as StepA, B as StepB}
+use Rattle.receiver.specs.declared.answer.StepRefusal.{StepRefusal}
 use Rattle.receiver.specs.declared.answer.StepRefusal.TheVariants.{NoEvent}
 use Rattle.receiver.specs.Channels.{ChannelState}
 use Rattle.receiver.specs.Units.{Setup, UnitState, answer, answers, after, step_answer}
@@ -28,17 +29,18 @@ module _ {X Y : Type 0} (s : Setup X Y) (ca cb : ChannelState) where
   abbrev Says : List Event → List Event → Answer X Y → Type 0
   Says xs ys x = answer s (unit_at xs ys) StepCall ≡ x
 
-  refused_only : (xs ys : List Event) → Says xs ys (Refused NoEvent) → (xs ≡ []) × (ys ≡ [])
-  refused_only [] [] h = (refl, refl)
-  refused_only (e ∷ es) [] h = cc
-  refused_only [] (f ∷ fs) h = cc
-  refused_only (e ∷ es) (f ∷ fs) h =
-      (elim (ltb (time_of f) (time_of e)) as (λ b. step_answer s (unit_at (e ∷ es) (f ∷ fs)) (cond b (Some SideB) (Some SideA)) ≡ Refused NoEvent → ((e ∷ es) ≡ []) × ((f ∷ fs) ≡ [])) [
+  -- a step is refused only where both lists are at their end, and is refused there
+  pub refused_only : (xs ys : List Event) (r : StepRefusal) → Says xs ys (Refused r) → (xs ≡ []) × (ys ≡ [])
+  refused_only [] [] r h = (refl, refl)
+  refused_only (e ∷ es) [] r h = cc
+  refused_only [] (f ∷ fs) r h = cc
+  refused_only (e ∷ es) (f ∷ fs) r h =
+      (elim (ltb (time_of f) (time_of e)) as (λ b. step_answer s (unit_at (e ∷ es) (f ∷ fs)) (cond b (Some SideB) (Some SideA)) ≡ Refused r → ((e ∷ es) ≡ []) × ((f ∷ fs) ≡ [])) [
         | true ↦ λ says. cc
         | false ↦ λ says. cc
       ]) h
 
-  refused_then : (xs ys : List Event) → xs ≡ [] → ys ≡ [] → Says xs ys (Refused NoEvent)
+  pub refused_then : (xs ys : List Event) → xs ≡ [] → ys ≡ [] → Says xs ys (Refused NoEvent)
   refused_then [] [] a b = refl
   refused_then (e ∷ es) ys a b = cc
   refused_then [] (f ∷ fs) a b = cc
@@ -78,7 +80,7 @@ in_turn {X} {Y} s u asked answered look =
     let ca : ChannelState = u.channel_a in
     let cb : ChannelState = u.channel_b in
     record {
-      refused_only_at_the_end = λ asks says. refused_only s ca cb u.left_a u.left_b (told (Refused NoEvent) asks says);
+      refused_only_at_the_end = λ asks says. refused_only s ca cb u.left_a u.left_b NoEvent (told (Refused NoEvent) asks says);
       refused_at_the_end = λ asks a b. look asks ∙ ap (λ (x : Answer X Y). Some x) (refused_then s ca cb u.left_a u.left_b a b);
       a_not_after_b = λ t r e asks says next. a_in_turn s ca cb u.left_a u.left_b t r e (told (Stepped (StepA t r)) asks says) next;
       b_before_a = λ t r e asks says next. b_in_turn s ca cb u.left_a u.left_b t r e (told (Stepped (StepB t r)) asks says) next;
