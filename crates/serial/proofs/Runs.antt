@@ -193,7 +193,7 @@ module _ {M : Type 0} (f : Format M) (law : LawfulFormat f) where
   run : (ls ds : List (List Pair)) (done xs : List Came) (ks : List Kept) → AllLawful f ls → AllLawful f ds → pairs_came done ≡ joined ds → pairs_came xs ≡ joined ls → Like ks (kepts done)
       → answers f ks xs ≡ messages f ls xs
   run [] ds done [] ks all all' came e like = refl
-  run [] ds done (x ∷ xs) ks all all' came e like = let z : ◌≡◌ {A = ℕ} (suc (length (pairs_came xs))) 0 = ap length e in absurd (omega arith)
+  run [] ds done (x ∷ xs) ks all all' came e like = cc
   run (l ∷ ls) ds done xs ks all all' came e like =
       let n : ℕ = f.size in
       let lw : length l ≡ n = whole l all.0 in
