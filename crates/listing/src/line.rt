@@ -29,10 +29,7 @@ pub(crate) struct Head {
 pub(crate) fn letter_of(side: Side) -> u8
     ensures { result ≡ side_letter side }
 {
-    match side {
-        Side::A => b'A',
-        Side::B => b'B',
-    }
+    side.letter() as u8
 }
 
 // The letter of the refused channel, or a dash where it is the file as a whole.
