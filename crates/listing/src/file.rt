@@ -9,8 +9,8 @@ use crate::line::MOST_BYTES;
 use crate::page::Page;
 use formats::enhanced::Enhanced;
 use formats::short::Short;
+use model::feed::Feed;
 use model::source::EdgeSource;
-use receiver::fed::Feed;
 use receiver::unit::Receiver;
 use unitfile::file::UnitFile;
 
@@ -85,7 +85,7 @@ pub enum ListRefusal {
 pub fn room_for(length: usize) -> usize
     ensures { result ≡ ceiling length }
 {
-    24 * length.min(60_000) + 48
+    24 * length.min(unitfile::file::MOST_BYTES) + 48
 }
 
 fn make_listing(input: &[u8], out: &mut Vec<u8>) -> Verdict
@@ -97,15 +97,7 @@ fn make_listing(input: &[u8], out: &mut Vec<u8>) -> Verdict
 {
     match UnitFile::read(input) {
         Ok(file) => {
-            let (counter, log) = file.open();
-            let a = Feed {
-                source: counter,
-                settings: file.a.settings,
-            };
-            let b = Feed {
-                source: log,
-                settings: file.b.settings,
-            };
+            let (a, b) = file.open();
             list_unit(a, b, out);
             Verdict::Accepted
         }

@@ -1,9 +1,9 @@
 use captures::absolute::AbsoluteLog;
 use formats::enhanced::{Configuration, Enhanced, EnhancedMessage};
 use formats::short::{Short, ShortMessage};
+use model::feed::Feed;
 use model::settings::Settings;
 use receiver::answer::Step;
-use receiver::fed::Feed;
 use receiver::unit::Receiver;
 use serial::report::SerialReport;
 use std::alloc::{AllocError, Global};

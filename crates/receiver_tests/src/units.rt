@@ -3,12 +3,12 @@ use captures::counter::CounterCapture;
 use formats::enhanced::{Enhanced, EnhancedMessage};
 use formats::short::{Short, ShortMessage};
 use model::fault::{Fault, FaultKind};
+use model::feed::Feed;
 use model::settings::{Settings, SettingsRefusal};
 use model::side::Side;
 use pulses::frame::FrameRow;
 use pulses::outcome::Outcome;
 use receiver::answer::{Figures, Reports, Step};
-use receiver::fed::Feed;
 use receiver::unit::Receiver;
 use std::test::Fail;
 

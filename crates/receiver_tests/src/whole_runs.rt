@@ -2,12 +2,12 @@ use captures::absolute::AbsoluteLog;
 use captures::counter::CounterCapture;
 use formats::enhanced::{Enhanced, EnhancedMessage};
 use formats::short::{Short, ShortMessage};
+use model::feed::Feed;
 use model::settings::Settings;
 use model::side::Side;
 use pulses::frame::FrameRow;
 use pulses::outcome::Outcome;
 use receiver::answer::{Answer, Call, Reports, Step, StepRefusal, Subject};
-use receiver::fed::Feed;
 use runs::run::run;
 use std::test::Fail;
 

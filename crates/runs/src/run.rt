@@ -6,9 +6,9 @@ ghost use Rattle.receiver.specs.Receiving.{standing_new};
 ghost use Rattle.runs.specs.Law.{LawfulRun, AnsweredInTurn};
 ghost use Rattle.runs.specs.Running.{answers_of, left_by_all, RunsAsDefined};
 
+use model::feed::Feed;
 use model::source::EdgeSource;
 use receiver::answer::{Answer, Call};
-use receiver::fed::Feed;
 use receiver::unit::Receiver;
 use serial::format::SerialFormat;
 

@@ -9,7 +9,9 @@ ghost use Rattle.unitfile.specs.Files.{file_number, file_record, file_side, head
 use captures::absolute::AbsoluteLog;
 use captures::capture::Capture;
 use captures::counter::CounterCapture;
+use captures::events::Timing;
 use captures::sound::Sound;
+use model::feed::Feed;
 use model::settings::{Settings, SettingsRefusal};
 use model::side::Side;
 use records::checking::CheckRefusal;
@@ -63,7 +65,7 @@ impl FileRefusal {
         }
     }
 
-    // The record that is named, or 0 where none is.
+    // The record that is named, or 0 where none is: the line of a refusal has 0 for its last field then.
     pub fn place(self) -> u32
         ensures { result ≡ file_record self }
     {
@@ -114,6 +116,7 @@ fn read_layout(bytes: &[u8]) -> Option<(Part<'_>, Part<'_>)>
     let (mark, rest) = bytes.split_first_chunk::<2>()?;
     let (head_a, rest) = rest.split_first_chunk::<9>()?;
     let (head_b, captures) = rest.split_first_chunk::<9>()?;
+    // a mark is compared letter by letter, as every mark is, and is not stripped as bytes
     let [first, second] = *mark;
     if first as char != 'S' || second as char != 'U' {
         return None;
@@ -139,17 +142,29 @@ fn read_layout(bytes: &[u8]) -> Option<(Part<'_>, Part<'_>)>
 // What a channel's part holds, or why it is refused: its settings, then its capture.
 fn read_channel<'a, K: Recording>(
     side: Side,
-    head: Head,
-    capture: &'a [u8],
+    part: Part<'a>,
 ) -> Result<UnitChannel<'a, K>, FileRefusal>
     requires { kind_of side ≡ K.kind }
-    ensures { MatchResult result (λ c. (channel_refused side head.calibration head.nibbles capture.now ≡ None) × (c.settings.calibration ≡ head.calibration) × (c.settings.nibbles ≡ head.nibbles) × (c.capture.bytes.now ≡ capture.now)) (λ e. channel_refused side head.calibration head.nibbles capture.now ≡ Some e) }
+    ensures { MatchResult result (λ c. (channel_refused side part.entry.head.calibration part.entry.head.nibbles part.entry.capture.now ≡ None) × (c.settings.calibration ≡ part.entry.head.calibration) × (c.settings.nibbles ≡ part.entry.head.nibbles) × (c.capture.bytes.now ≡ part.entry.capture.now)) (λ e. channel_refused side part.entry.head.calibration part.entry.head.nibbles part.entry.capture.now ≡ Some e) }
 {
-    let settings = Settings::new(head.calibration, head.nibbles).map_err(
+    let settings = Settings::new(part.head.calibration, part.head.nibbles).map_err(
         |why| FileRefusal::Channel { side, why },
     )?;
-    let capture = Sound::check(capture).map_err(|why| FileRefusal::Capture { side, why })?;
+    let capture = Sound::check(part.capture).map_err(|why| FileRefusal::Capture { side, why })?;
     Ok(UnitChannel { settings, capture })
+}
+
+impl<'a, K: Timing> UnitChannel<'a, K> {
+    // What the channel is fed from: its capture, which is not checked again, under its settings.
+    pub fn open(&self) -> Feed<Capture<'a, K>>
+        ensures events { source_left result.source ≡ capture_events K.kind self.now.capture.bytes.now }
+        ensures settings { result.settings ≡ self.now.settings }
+    {
+        Feed {
+            source: Capture::open_sound(&self.capture),
+            settings: self.settings,
+        }
+    }
 }
 
 impl<'a> UnitFile<'a> {
@@ -160,19 +175,18 @@ impl<'a> UnitFile<'a> {
         ensures encodings_accepted { EncodingsAccepted bytes.now result }
     {
         let (a, b) = read_layout(bytes).ok_or(FileRefusal::Layout)?;
-        let a = read_channel(Side::A, a.head, a.capture)?;
-        let b = read_channel(Side::B, b.head, b.capture)?;
+        let a = read_channel(Side::A, a)?;
+        let b = read_channel(Side::B, b)?;
         Ok(UnitFile { a, b })
     }
 
-    // Sources of both captures, of which neither is checked again.
-    pub fn open(&self) -> (CounterCapture<'a>, AbsoluteLog<'a>)
-        ensures a { source_left result.0 ≡ capture_events CounterKind (capture_a self.now) }
-        ensures b { source_left result.1 ≡ capture_events LogKind (capture_b self.now) }
+    // What both channels are fed from.
+    pub fn open(&self) -> (Feed<CounterCapture<'a>>, Feed<AbsoluteLog<'a>>)
+        ensures a { source_left result.0.source ≡ capture_events CounterKind (capture_a self.now) }
+        ensures settings_a { result.0.settings ≡ self.now.a.settings }
+        ensures b { source_left result.1.source ≡ capture_events LogKind (capture_b self.now) }
+        ensures settings_b { result.1.settings ≡ self.now.b.settings }
     {
-        (
-            Capture::open_sound(&self.a.capture),
-            Capture::open_sound(&self.b.capture),
-        )
+        (self.a.open(), self.b.open())
     }
 }

@@ -7,7 +7,8 @@ ghost use Rattle.receiver.specs.declared.answer.Subject.TheVariants.{Reading as 
 
 use super::Receiver;
 use crate::answer::{Answer, Call, Closing, Step, StepRefusal, Subject};
-use crate::fed::{FedChannel, Feed};
+use crate::fed::FedChannel;
+use model::feed::Feed;
 use model::side::Side;
 use model::source::EdgeSource;
 use serial::format::SerialFormat;
