@@ -217,6 +217,7 @@ report_told n (Fault fault) (Fault fault') h k whole whole' e p d =
     λ i. Fault (record { kind = kind i; place = p i })
 
 pub reports_told_apart : LinesTellReportsApart
+unfolding LinesTellReportsApart
 reports_told_apart n side side' time time' r s t t' h k whole whole' e =
     let both : (side_letter side ∷ following (fields n time r)) ≡ (side_letter side' ∷ following (fields n time' s)) = sym (line_fields side n time r) ∙ e ∙ line_fields side' n time' s in
     let first : side_letter side ≡ side_letter side' = ap (λ l. get_or l 0 0) both in

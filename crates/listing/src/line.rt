@@ -3,6 +3,7 @@
 
 ghost use Rattle.std.specs.Prelude.{◌≡◌, ◌+◌, ◌^◌, ◌<◌, ◌≤◌, ◌++◌, length, decimal};
 ghost use Rattle.listing.specs.Lines.{side_letter, details, following, lettered, four_fields, line, closing_line, refused_letter, refusal_line};
+ghost use Rattle.listing.specs.Pages.{Grows};
 ghost use Rattle.listing.specs.Written.{LineWritten};
 ghost use Rattle.listing.specs.Worked.{WorkedLines};
 ghost use Rattle.listing.specs.Laws.{NoLineLongerThan48, LinesTellReportsApart};
@@ -17,6 +18,7 @@ use unitfile::file::FileRefusal;
 pub const MOST_BYTES: usize = 48;
 
 // Of which channel a line tells, how many data nibbles its frames have, and at what time.
+// A `Line` is a caller's and holds any numbers; a head is within its limits.
 #[derive(Clone, Copy)]
 pub(crate) struct Head {
     pub(crate) side: Side,
@@ -39,6 +41,7 @@ fn refused_letter(side: Option<Side>) -> u8
     side.map_or(b'-', letter_of)
 }
 
+// Each writer asks for room: a page may be full, so no invariant can say that there is some.
 impl<const N: usize> Page<N> {
     // A letter, a number, a letter and a number: channel, time, kind and place of a report.
     fn four_fields(&mut self, first: u8, number: u64, second: u8, place: u32)
@@ -101,8 +104,7 @@ impl<const N: usize> Page<N> {
     #[tactic(auto, unfolding(crate::specs::Lines::line))]
     pub(crate) fn line(&mut self, head: Head, report: LineReport)
         requires { length self.old + 48 ≤ N }
-        ensures wrote { self.new ≡ self.old ++ line head.side head.nibbles head.time report }
-        ensures short { length self.new ≤ length self.old + 48 }
+        ensures { Grows self.old self.new (line head.side head.nibbles head.time report) 48 }
     {
         self.four_fields(
             letter_of(head.side),
@@ -116,8 +118,7 @@ impl<const N: usize> Page<N> {
     // The closing line: how many frames each channel received.
     pub(crate) fn closing(&mut self, frames_a: u32, frames_b: u32)
         requires { length self.old + 48 ≤ N }
-        ensures wrote { self.new ≡ self.old ++ closing_line frames_a frames_b }
-        ensures short { length self.new ≤ length self.old + 48 }
+        ensures { Grows self.old self.new (closing_line frames_a frames_b) 48 }
     {
         self.lettered(b'Z', frames_a, frames_b);
     }
@@ -125,8 +126,7 @@ impl<const N: usize> Page<N> {
     // The line that stands for a refused file.
     pub(crate) fn refusal(&mut self, refusal: FileRefusal)
         requires { length self.old + 48 ≤ N }
-        ensures wrote { self.new ≡ self.old ++ refusal_line refusal }
-        ensures short { length self.new ≤ length self.old + 48 }
+        ensures { Grows self.old self.new (refusal_line refusal) 48 }
     {
         self.four_fields(
             b'R',
@@ -148,9 +148,14 @@ pub struct Line {
 }
 
 impl Line {
-    // The tests in their order, and then the line.
-    fn write_checked(self, buffer: &mut [u8]) -> Result<usize, LineRefusal>
-        ensures { LineWritten self buffer.old buffer.new result }
+    // Writes the line into a buffer, and answers how many bytes that took; what stands behind them stays.
+    // A refusal writes nothing.
+    #[tactic(auto, using(crate::proofs::Sizes::lines_short, crate::proofs::Apart::reports_told_apart, crate::proofs::Reading::worked_lines))]
+    pub fn write(self, buffer: &mut [u8]) -> Result<usize, LineRefusal>
+        ensures written { LineWritten self buffer.old buffer.new result }
+        ensures no_line_longer_than_48 { NoLineLongerThan48 }
+        ensures lines_tell_reports_apart { LinesTellReportsApart }
+        ensures lines_read_so { WorkedLines }
     {
         let Line {
             side,
@@ -179,16 +184,5 @@ impl Line {
         let count = page.len();
         buffer[..count].copy_from_slice(page.as_slice());
         Ok(count)
-    }
-
-    // Writes the line into a buffer, and answers how many bytes that took; what stands behind them stays.
-    // A refusal writes nothing.
-    pub fn write(self, buffer: &mut [u8]) -> Result<usize, LineRefusal>
-        ensures written { LineWritten self buffer.old buffer.new result }
-        ensures no_line_longer_than_48 { NoLineLongerThan48 }
-        ensures lines_tell_reports_apart { LinesTellReportsApart }
-        ensures lines_read_so { WorkedLines }
-    {
-        self.write_checked(buffer)
     }
 }
