@@ -15,7 +15,8 @@ use Rattle.formats.specs.declared.enhanced.Configuration.TheVariants.{Data12}
 use Rattle.listing.specs.declared.report.LineReport.{LineReport}
 use Rattle.listing.specs.declared.report.LineReport.TheVariants.{Frame, Short, Enhanced, Fault}
 use Rattle.listing.specs.Laws.{InTypes, ShownWhole, shown, LinesTellReportsApart}
-use Rattle.listing.specs.Lines.{hex_digit, side_letter, kind_letter, place_of, details, following, four_fields, line}
+use Rattle.model.specs.Sides.{side_letter}
+use Rattle.listing.specs.Lines.{hex_digit, kind_letter, place_of, details, following, four_fields, line}
 use Rattle.listing.proofs.Sizes.{number_small, place_small}
 
 -- bytes of a field: none is a space or a line feed

@@ -2,7 +2,8 @@
 #![tactic(auto, using(crate::proofs::Sizes::sizes), unfolding(crate::specs::Lines::four_fields))]
 
 ghost use Rattle.std.specs.Prelude.{◌≡◌, ◌+◌, ◌^◌, ◌<◌, ◌≤◌, ◌++◌, length, decimal};
-ghost use Rattle.listing.specs.Lines.{side_letter, details, following, lettered, four_fields, line, closing_line, refused_letter, refusal_line};
+ghost use Rattle.model.specs.Sides.{side_letter};
+ghost use Rattle.listing.specs.Lines.{details, following, lettered, four_fields, line, closing_line, refused_letter, refusal_line};
 ghost use Rattle.listing.specs.Pages.{Grows};
 ghost use Rattle.listing.specs.Written.{LineWritten};
 ghost use Rattle.listing.specs.Worked.{WorkedLines};
