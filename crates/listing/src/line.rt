@@ -56,7 +56,7 @@ impl<const N: usize> Page<N> {
         self.space();
         self.push(second);
         self.space();
-        self.decimal(place as u64);
+        self.decimal(u64::from(place));
     }
 
     // A letter and two numbers, which end a line.
@@ -66,9 +66,9 @@ impl<const N: usize> Page<N> {
     {
         self.push(letter);
         self.space();
-        self.decimal(first as u64);
+        self.decimal(u64::from(first));
         self.space();
-        self.decimal(second as u64);
+        self.decimal(u64::from(second));
         self.end();
     }
 
@@ -85,17 +85,17 @@ impl<const N: usize> Page<N> {
                 self.push(hex(frame.status()) as u8);
                 self.space();
                 let values = frame.nibbles();
-                self.nibbles(&values[..nibbles as usize]);
+                self.nibbles(&values[..usize::from(nibbles)]);
                 self.end();
             }
             LineReport::Short { message, .. } => {
-                self.lettered(b'S', message.id as u32, message.data as u32);
+                self.lettered(b'S', u32::from(message.id), u32::from(message.data));
             }
             LineReport::Enhanced { message, .. } => {
-                self.lettered(b'E', message.id as u32, message.data as u32);
+                self.lettered(b'E', u32::from(message.id), u32::from(message.data));
             }
             LineReport::Fault(fault) => {
-                self.decimal(fault.kind.number() as u64);
+                self.decimal(u64::from(fault.kind.number()));
                 self.end();
             }
         }
@@ -131,7 +131,7 @@ impl<const N: usize> Page<N> {
     {
         self.four_fields(
             b'R',
-            refusal.number() as u64,
+            u64::from(refusal.number()),
             refused_letter(refusal.side()),
             refusal.place(),
         );
