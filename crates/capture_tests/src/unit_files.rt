@@ -32,17 +32,13 @@ fn bytes_of(heap: Global, of: &Contents, added: u32) -> Result<Vec<u8>, AllocErr
     Ok(bytes)
 }
 
-// The answer to a file: its number, 0 where it is accepted, its channel and its record.
-fn answer(bytes: &[u8]) -> (u16, char, u32) {
-    let Err(why) = UnitFile::read(bytes) else {
-        return (0, '-', 0);
-    };
-    let letter = match why.side() {
-        Some(Side::A) => 'A',
-        Some(Side::B) => 'B',
-        None => '-',
-    };
-    (why.number(), letter, why.place())
+// A file is accepted, or refused with a number, naming a channel, if it is one, and a record.
+type Answer = Result<(), (u16, Option<Side>, u32)>;
+
+fn answer(bytes: &[u8]) -> Answer {
+    UnitFile::read(bytes)
+        .map(|_| ())
+        .map_err(|why| (why.number(), why.side(), why.place()))
 }
 
 fn draft<'a>(k_a: u32, n_a: u8, a: &'a [u8], k_b: u32, n_b: u8, b: &'a [u8]) -> Contents<'a> {
@@ -57,15 +53,9 @@ fn draft<'a>(k_a: u32, n_a: u8, a: &'a [u8], k_b: u32, n_b: u8, b: &'a [u8]) -> 
     }
 }
 
-fn file(
-    rt: &(impl Abort + AllocGlobal),
-    of: Contents,
-    number: u16,
-    letter: char,
-    place: u32,
-) -> Result<(), Fail> {
+fn file(rt: &(impl Abort + AllocGlobal), of: Contents, expected: Answer) -> Result<(), Fail> {
     let bytes = bytes_of(rt.alloc(), &of, 0)?;
-    assert_eq!(rt; answer(&bytes), (number, letter, place));
+    assert_eq!(rt; answer(&bytes), expected);
     Ok(())
 }
 
@@ -79,31 +69,61 @@ const BAD_B: [u8; 8] = *b"SL\x00\x00\x00\x00\x00\x07";
 
 #[test]
 fn each_refusal_in_its_turn(rt: HostRuntime) -> Result<(), Fail> {
+    file(&rt, draft(560, 1, &GOOD_A, 4_000_000, 6, &GOOD_B), Ok(()))?;
+    file(&rt, draft(560, 1, b"", 560, 1, b""), Ok(()))?;
     file(
         &rt,
-        draft(560, 1, &GOOD_A, 4_000_000, 6, &GOOD_B),
-        0,
-        '-',
-        0,
+        draft(559, 0, &BAD_A, 559, 0, &BAD_B),
+        Err((4, Some(Side::A), 0)),
     )?;
-    file(&rt, draft(560, 1, b"", 560, 1, b""), 0, '-', 0)?;
-    file(&rt, draft(559, 0, &BAD_A, 559, 0, &BAD_B), 4, 'A', 0)?;
-    file(&rt, draft(4_000_001, 1, &BAD_A, 560, 1, &GOOD_B), 4, 'A', 0)?;
-    file(&rt, draft(560, 0, &BAD_A, 559, 1, &GOOD_B), 5, 'A', 0)?;
-    file(&rt, draft(560, 7, &BAD_A, 560, 1, &GOOD_B), 5, 'A', 0)?;
-    file(&rt, draft(560, 6, &BAD_A, 559, 0, &BAD_B), 2, 'A', 1)?;
-    file(&rt, draft(560, 6, b"SC\x00", 559, 0, &BAD_B), 1, 'A', 0)?;
-    file(&rt, draft(560, 6, &GOOD_A, 559, 0, &BAD_B), 4, 'B', 0)?;
-    file(&rt, draft(560, 6, &GOOD_A, 560, 7, &BAD_B), 5, 'B', 0)?;
-    file(&rt, draft(560, 6, &GOOD_A, 560, 6, &BAD_B), 3, 'B', 0)
+    file(
+        &rt,
+        draft(4_000_001, 1, &BAD_A, 560, 1, &GOOD_B),
+        Err((4, Some(Side::A), 0)),
+    )?;
+    file(
+        &rt,
+        draft(560, 0, &BAD_A, 559, 1, &GOOD_B),
+        Err((5, Some(Side::A), 0)),
+    )?;
+    file(
+        &rt,
+        draft(560, 7, &BAD_A, 560, 1, &GOOD_B),
+        Err((5, Some(Side::A), 0)),
+    )?;
+    file(
+        &rt,
+        draft(560, 6, &BAD_A, 559, 0, &BAD_B),
+        Err((2, Some(Side::A), 1)),
+    )?;
+    file(
+        &rt,
+        draft(560, 6, b"SC\x00", 559, 0, &BAD_B),
+        Err((1, Some(Side::A), 0)),
+    )?;
+    file(
+        &rt,
+        draft(560, 6, &GOOD_A, 559, 0, &BAD_B),
+        Err((4, Some(Side::B), 0)),
+    )?;
+    file(
+        &rt,
+        draft(560, 6, &GOOD_A, 560, 7, &BAD_B),
+        Err((5, Some(Side::B), 0)),
+    )?;
+    file(
+        &rt,
+        draft(560, 6, &GOOD_A, 560, 6, &BAD_B),
+        Err((3, Some(Side::B), 0)),
+    )
 }
 
 #[test]
 fn layouts(rt: HostRuntime) -> Result<(), Fail> {
-    assert_eq!(rt; answer(b""), (10, '-', 0));
+    assert_eq!(rt; answer(b""), Err((10, None, 0)));
     assert_eq!(rt;
         answer(b"SU\x00\x00\x02\x30\x01\x00\x00\x00\x00\x00\x00\x02\x30\x01\x00\x00\x00"),
-        (10, '-', 0)
+        Err((10, None, 0))
     );
     let other_mark = Contents {
         mark: b"SV",
@@ -114,14 +134,11 @@ fn layouts(rt: HostRuntime) -> Result<(), Fail> {
         n_b: 1,
         b: &GOOD_B,
     };
-    file(&rt, other_mark, 10, '-', 0)?;
+    file(&rt, other_mark, Err((10, None, 0)))?;
     let wrapped = draft(560, 1, &GOOD_A, 560, 1, &GOOD_B);
     let bytes = bytes_of(rt.alloc(), &wrapped, 0x8000_0000)?;
-    assert_eq!(rt; answer(&bytes), (10, '-', 0));
-    let mut long = Vec::new(rt.alloc());
-    for _ in 0..60_001 {
-        long.push(0x53)?;
-    }
-    assert_eq!(rt; answer(&long), (10, '-', 0));
+    assert_eq!(rt; answer(&bytes), Err((10, None, 0)));
+    let long = b"\x53".repeat(rt.alloc(), 60_001)?;
+    assert_eq!(rt; answer(&long), Err((10, None, 0)));
     Ok(())
 }

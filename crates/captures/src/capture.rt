@@ -15,6 +15,7 @@ use records::checking::{CheckRefusal, check};
 use std::marker::PhantomData;
 
 // A source: its next event, found already so that looking costs nothing, and the cursor behind that.
+// No Peekable iterator holds both, since that looks through &mut and a source through &self.
 #[derive(Drop)]
 pub struct Capture<'a, K: Timing> {
     next: Option<Event>,

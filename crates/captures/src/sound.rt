@@ -1,19 +1,32 @@
 // Captures that the check accepts.
-ghost use Rattle.std.specs.Prelude.{◌≡◌, [], true, false, IsNone, Some, MatchResult};
+ghost use Rattle.std.specs.Prelude.{⊤, ◌≡◌, [], true, false, IsNone, Some, MatchResult};
 ghost use Rattle.records.specs.Checked.{checked};
 
 use crate::part::PartRefusal;
 use records::checking::{CheckRefusal, check};
 use records::record::Recording;
+use std::alloc::AllocError;
 use std::marker::PhantomData;
 
 // The bytes of a capture that is accepted, so that nothing that reads them asks again.
-#[derive(Drop)]
+// No derive copies a generic struct that keeps a fact.
 pub struct Sound<'a, K: Recording> {
     pub bytes: &'a [u8],
     of: PhantomData<K>,
     ghost accepted: { IsNone (checked K.kind bytes.now) },
 }
+
+impl<'a, K: Recording> Clone for Sound<'a, K> {
+    ghost is_clone = { λ x y. y ≡ x };
+
+    ghost is_infallible = { λ _. ⊤ };
+
+    fn clone(&self) -> Result<Sound<'a, K>, AllocError> {
+        Ok(*self)
+    }
+}
+
+impl<'a, K: Recording> Copy for Sound<'a, K> {}
 
 impl<'a, K: Recording> Sound<'a, K> {
     ghost use Rattle.captures.specs.Times.{record_count};

@@ -3,13 +3,14 @@ use Rattle.std.specs.Prelude.{◌≡◌, ℕ, ◌+◌, ◌<◌, ◌≤◌, Bool,
 use Rattle.std.specs.Bool.{beq}
 use Rattle.std.proofs.Common.{sym, ap, subst, ◌∙◌, inl, inr}
 use Rattle.std.proofs.Math.Nat.{lt_irrefl}
+use Rattle.std.proofs.lemmas.Float.{T_from_true}
 use Rattle.std.proofs.lemmas.Bool.{and_parts, or_cases, eqb-true, ltb-true, both_ways, true≢false}
 use Rattle.checks.proofs.Upto.{upto, upto_at}
 use Rattle.serial.specs.declared.pair.Pair.{Pair}
 use Rattle.serial.specs.Pairs.{blank}
 use Rattle.serial.specs.Format.{LawfulFormat}
 use Rattle.serial.proofs.Joined.{Inside, apart_from, stretch_at}
-use Rattle.serial.proofs.Truths.{so, is_so, some_told}
+use Rattle.serial.proofs.Truths.{is_so, some_told}
 use Rattle.formats.specs.declared.layout.Position.{Position}
 use Rattle.formats.specs.declared.layout.Position.TheVariants.{Bit3, Bit2}
 use Rattle.formats.specs.Positions.{each, read}
@@ -108,7 +109,7 @@ module _ {M : Type 0} (l : Layout) (check : List ℕ → ℕ) (content : List Pa
     at_least_one = some;
     at_most_18 = few;
     framed_in_length = λ ps t. framed_length l ps (is_so (framed_by l ps) t);
-    lawful_is_framed = λ ps t. so (framed_by l ps) (lawful_framed ps t);
+    lawful_is_framed = λ ps t. T_from_true (framed_by l ps) (lawful_framed ps t);
     lawful_is_told = λ ps. some_told (lawful_by l check ps) (content ps);
     apart = apart_from (format_by l check content) some (λ ps t. framed_length l ps (lawful_framed ps t)) (none_inside sep);
   }

@@ -49,6 +49,7 @@ const CONFIGURATION_BIT: Position = Bit3(7);
 impl Configuration {
     ghost use Rattle.formats.specs.Enhanced.{configuration_of, id_bits, data_bits};
 
+    // No `From`: a bool by itself does not say which.
     fn of(wide: bool) -> Configuration
         ensures { result ≡ configuration_of wide }
     {
@@ -145,7 +146,8 @@ impl SerialFormat for Enhanced {
     }
 }
 
-// Whether the check of what follows the first six pairs is the check sent in them.
+// Whether the check of what follows the first six pairs is the check sent in them. A check is a format's own, as its content is; what
+// formats share of it are `groups` and `byte`.
 fn check_agrees(pairs: &[Pair]) -> bool
     ensures { result ≡ check_fits layout check6 pairs.now }
 {

@@ -92,7 +92,8 @@ impl SerialFormat for Short {
     }
 }
 
-// Whether the check of id and data is the check sent with them.
+// Whether the check of id and data is the check sent with them. A check is a format's own, as its content is; what formats share of it
+// are `groups` and `byte`.
 fn check_agrees(pairs: &[Pair]) -> bool
     ensures { result ≡ check_fits layout check4 pairs.now }
 {

@@ -2,16 +2,15 @@
 #![tactic(auto)]
 
 use anyhow::anyhow;
-use captures::capture::Capture;
 use captures::events::Timing;
 use model::side::Side;
 use std::io;
 use std::io::Read;
-use unitfile::file::{FileRefusal, UnitChannel, UnitFile};
+use unitfile::file::{FileRefusal, MOST_BYTES, UnitChannel, UnitFile};
 use unitfile::summary::{Span, summary_of};
 
 // One byte more than a unit file may have, so that a longer one is seen to be too long.
-const READ_AT_MOST: u64 = 60_001;
+const READ_AT_MOST: u64 = MOST_BYTES as u64 + 1;
 
 fn main(rt: HostRuntime) -> anyhow::Result<()> {
     let mut input = Vec::new(rt.alloc());
@@ -29,23 +28,17 @@ fn main(rt: HostRuntime) -> anyhow::Result<()> {
     }
 }
 
-fn letter(side: Side) -> char {
-    match side {
-        Side::A => 'A',
-        Side::B => 'B',
-    }
-}
-
 fn describe<K: Timing>(
     rt: &HostRuntime,
     side: Side,
     channel: &UnitChannel<'_, K>,
 ) -> io::Result<()> {
-    let letter = letter(side);
-    let k = channel.settings.calibration();
-    let n = channel.settings.nibbles();
+    let letter = side.letter();
+    let feed = channel.open();
+    let k = feed.settings.calibration();
+    let n = feed.settings.nibbles();
     let records = channel.capture.record_count();
-    let summary = summary_of(Capture::open_sound(&channel.capture));
+    let summary = summary_of(feed.source);
     let edges = summary.edges;
     let breaks = summary.breaks;
     match summary.span {
@@ -61,6 +54,6 @@ fn describe<K: Timing>(
 fn refuse(rt: &HostRuntime, why: FileRefusal) -> io::Result<()> {
     let number = why.number();
     let place = why.place();
-    let letter = why.side().map_or('-', letter);
+    let letter = why.side().map_or('-', Side::letter);
     println!(rt; "R {number} {letter} {place}")
 }

@@ -15,7 +15,8 @@ use Rattle.formats.specs.declared.enhanced.Configuration.TheVariants.{Data12}
 use Rattle.listing.specs.declared.report.LineReport.{LineReport}
 use Rattle.listing.specs.declared.report.LineReport.TheVariants.{Frame, Short, Enhanced, Fault}
 use Rattle.listing.specs.Laws.{InTypes, ShownWhole, shown, LinesTellReportsApart}
-use Rattle.listing.specs.Lines.{hex_digit, side_letter, kind_letter, place_of, details, following, four_fields, line}
+use Rattle.model.specs.Sides.{side_letter}
+use Rattle.listing.specs.Lines.{hex_digit, kind_letter, place_of, details, following, four_fields, line}
 use Rattle.listing.proofs.Sizes.{number_small, place_small}
 
 -- bytes of a field: none is a space or a line feed
@@ -43,8 +44,8 @@ parted_field f g (a ∷ fs) (b ∷ gs) p q e = parted f g (a ++ following fs) (b
 -- the fields that follow
 fields_told : (fs gs : List (List ℕ)) → AllByRecursion Plain fs → AllByRecursion Plain gs → following fs ≡ following gs → fs ≡ gs
 fields_told [] [] p q e = refl
-fields_told [] (g ∷ gs) p q e = let z : ◌≡◌ {A = ℕ} 10 32 = cc in absurd (omega arith)
-fields_told (f ∷ fs) [] p q e = let z : ◌≡◌ {A = ℕ} 32 10 = cc in absurd (omega arith)
+fields_told [] (g ∷ gs) p q e = cc
+fields_told (f ∷ fs) [] p q e = cc
 fields_told (f ∷ fs) (g ∷ gs) p q e =
     let tails : f ++ following fs ≡ g ++ following gs = cc in
     let r = parted_field f g fs gs p.0 q.0 tails in
@@ -91,9 +92,6 @@ digits_told (v ∷ vs) (w ∷ ws) h k e =
     let b = digits_told vs ws h.1 k.1 rest in
     λ i. a i ∷ b i
 
-take_nibbles : (n : ℕ) (vs : List ℕ) → Nibbles vs → Nibbles (take n vs)
-take_nibbles = All-take (λ v. v < 16)
-
 unpacked_nibbles : (d : ℕ) → Nibbles (unpacked d)
 unpacked_nibbles d = (omega arith, (omega arith, (omega arith, (omega arith, (omega arith, (omega arith, tt))))))
 
@@ -132,7 +130,7 @@ kind_plain (Fault fault) = lit< tt
 
 details_plain : (n : ℕ) (report : LineReport) → InTypes report → AllByRecursion Plain (details n report)
 details_plain n (Frame row) h =
-    ((hex_plain (row.status % 16) (omega arith), tt), (digits_plain (take n (unpacked row.packed)) (take_nibbles n (unpacked row.packed) (unpacked_nibbles row.packed)), tt))
+    ((hex_plain (row.status % 16) (omega arith), tt), (digits_plain (take n (unpacked row.packed)) (All-take (λ v. v < 16) n (unpacked row.packed) (unpacked_nibbles row.packed)), tt))
 details_plain n (Short place message) h =
     ((lit< tt, tt), (decimal_plain message.id (omega arith), (decimal_plain message.«data» (omega arith), tt)))
 details_plain n (Enhanced place message) h =
@@ -184,7 +182,7 @@ report_told n (Frame row) (Frame row') h k whole whole' e p d =
     let six : List ℕ = unpacked row.packed in
     let six' : List ℕ = unpacked row'.packed in
     let digits : map hex_digit (take n six) ≡ map hex_digit (take n six') = ap (λ l. get_or l 1 []) d in
-    let front = digits_told (take n six) (take n six') (take_nibbles n six (unpacked_nibbles row.packed)) (take_nibbles n six' (unpacked_nibbles row'.packed)) digits in
+    let front = digits_told (take n six) (take n six') (All-take (λ v. v < 16) n six (unpacked_nibbles row.packed)) (All-take (λ v. v < 16) n six' (unpacked_nibbles row'.packed)) digits in
     let packed = packed_told row.packed row'.packed whole.1 whole'.1 (front_told n six six' refl whole.2 whole'.2 front) in
     λ i. Frame (record { place = p i; status = status i; packed = packed i })
 report_told n (Frame row) (Short place message) h k whole whole' e p d = absurd (omega (arith, e))
@@ -217,6 +215,7 @@ report_told n (Fault fault) (Fault fault') h k whole whole' e p d =
     λ i. Fault (record { kind = kind i; place = p i })
 
 pub reports_told_apart : LinesTellReportsApart
+unfolding LinesTellReportsApart
 reports_told_apart n side side' time time' r s t t' h k whole whole' e =
     let both : (side_letter side ∷ following (fields n time r)) ≡ (side_letter side' ∷ following (fields n time' s)) = sym (line_fields side n time r) ∙ e ∙ line_fields side' n time' s in
     let first : side_letter side ≡ side_letter side' = ap (λ l. get_or l 0 0) both in

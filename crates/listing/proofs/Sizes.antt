@@ -10,7 +10,8 @@ use Rattle.pulses.specs.Frames.{unpacked}
 use Rattle.listing.specs.declared.report.LineReport.{LineReport}
 use Rattle.listing.specs.declared.report.LineReport.TheVariants.{Frame, Short, Enhanced, Fault}
 use Rattle.listing.specs.Laws.{InTypes, NoLineLongerThan48}
-use Rattle.listing.specs.Lines.{hex_digit, side_letter, kind_letter, place_of, details, following, lettered, four_fields, line}
+use Rattle.model.specs.Sides.{side_letter}
+use Rattle.listing.specs.Lines.{hex_digit, kind_letter, place_of, details, following, lettered, four_fields, line}
 
 -- a number from 10^k up to 10^(k+1) has k + 1 digits
 pub digits_are : (k n : ℕ) → 10 ^ k ≤ n → n < 10 * 10 ^ k → n < 2 ^ 64 → k + 1 ≡ length (decimal n)

@@ -1,5 +1,6 @@
 -- A unit that is stepped until no event is left.
-use Rattle.std.proofs.Common.{◌≡◌, ℕ, zero, suc, ◌+◌, ◌^◌, ◌<◌, true, false, cond, ltb, List, [], ◌∷◌, ◌++◌, length, Some, None, Option, sym, refl, ap, ◌∙◌, subst, ap₂, append_assoc, arith}
+use Rattle.std.proofs.Common.{◌≡◌, ℕ, zero, suc, ◌+◌, ◌^◌, ◌<◌, true, false, cond, ltb, List, [], ◌∷◌, ◌++◌, length, Some, None, Option, sym, ap, ◌∙◌, subst, ap₂, append_assoc, arith}
+use Rattle.std.proofs.lemmas.List.{nil_from_length}
 use Rattle.model.specs.declared.event.Event.{Event}
 use Rattle.model.specs.declared.settings.Settings.{Settings}
 use Rattle.model.specs.declared.side.Side.{Side}
@@ -11,12 +12,12 @@ use Rattle.receiver.specs.declared.answer.Step.TheVariants.{A as StepA, B as Ste
 use Rattle.formats.specs.declared.short.ShortMessage.{ShortMessage}
 use Rattle.formats.specs.declared.enhanced.EnhancedMessage.{EnhancedMessage}
 use Rattle.receiver.specs.declared.answer.StepRefusal.{StepRefusal}
-use Rattle.receiver.specs.declared.answer.StepRefusal.TheVariants.{NoEvent}
 use Rattle.receiver.specs.declared.answer.Answer.{Answer}
 use Rattle.receiver.specs.declared.answer.Answer.TheVariants.{Stepped, Refused}
 use Rattle.receiver.specs.Channels.{ChannelState, reports}
 use Rattle.receiver.specs.Units.{Setup, UnitState, answer, after, due, answers, after_all, step_answer, step_after}
 use Rattle.runs.specs.Law.{steps, RunsOut}
+use Rattle.runs.proofs.Turns.{refused_only, refused_then}
 use Rattle.listing.specs.Listings.{events_left, step_time, step_lines, answer_lines, joined_lines, listing_setup, unit_listing, closing_of}
 
 -- what a step does to the events left, and that it is in time
@@ -39,21 +40,6 @@ module _ {X Y : Type 0} (s : Setup X Y) (ca cb : ChannelState) where
       let is : x ≡ StepB (time_of w) (reports (s SideB) cb w) = cc in
       record { one_fewer = omega arith; in_time = λ l m. subst (λ (t : ℕ). t < 2 ^ 40) (sym (ap step_time is)) m.0 }
 
-  none_at : (xs ys : List Event) (r : StepRefusal) → Refused r ≡ answer s (of xs ys) StepCall → events_left (of xs ys) ≡ 0
-  none_at [] [] r e = refl
-  none_at (v ∷ vs) [] r e = cc
-  none_at [] (w ∷ ws) r e = cc
-  none_at (v ∷ vs) (w ∷ ws) r e =
-      (elim (ltb (time_of w) (time_of v)) as (λ b. Refused r ≡ step_answer s (of (v ∷ vs) (w ∷ ws)) (cond b (Some SideB) (Some SideA)) → events_left (of (v ∷ vs) (w ∷ ws)) ≡ 0) [
-        | true ↦ λ f. cc
-        | false ↦ λ f. cc
-      ]) e
-
-  none_due : (xs ys : List Event) → length xs + length ys ≡ 0 → answer s (of xs ys) StepCall ≡ Refused NoEvent
-  none_due [] [] e = refl
-  none_due (v ∷ vs) ys e = absurd (omega arith)
-  none_due [] (w ∷ ws) e = absurd (omega arith)
-
   fewer : (m : ℕ) (xs ys : List Event) → length xs + length ys ≡ suc m → events_left (after s (of xs ys) StepCall) ≡ m
   fewer m [] [] e = absurd (omega arith)
   fewer m (v ∷ vs) [] e = omega arith
@@ -68,11 +54,14 @@ pub step_made : {X Y : Type 0} (s : Setup X Y) (u : UnitState) (x : Step X Y) �
 step_made s u x e = made_by s u.channel_a u.channel_b u.left_a u.left_b (due u.left_a u.left_b) x e
 
 pub none_left : {X Y : Type 0} (s : Setup X Y) (u : UnitState) (r : StepRefusal) → Refused r ≡ answer s u StepCall → events_left u ≡ 0
-none_left s u r e = none_at s u.channel_a u.channel_b u.left_a u.left_b r e
+none_left s u r e =
+    let at_the_end = refused_only s u.channel_a u.channel_b u.left_a u.left_b r (sym e) in
+    ap₂ (λ (xs ys : List Event). length xs + length ys) at_the_end.0 at_the_end.1
 
 -- after as many steps as there are events the next one is refused
 pub runs_out : {X Y : Type 0} (s : Setup X Y) (n : ℕ) (u : UnitState) → events_left u ≡ n → RunsOut s u n
-runs_out s zero u e = none_due s u.channel_a u.channel_b u.left_a u.left_b e
+runs_out s zero u e =
+    refused_then s u.channel_a u.channel_b u.left_a u.left_b (nil_from_length u.left_a (omega arith)) (nil_from_length u.left_b (omega arith))
 runs_out s (suc m) u e = runs_out s m (after s u StepCall) (fewer s u.channel_a u.channel_b m u.left_a u.left_b e)
 
 -- The listing of a unit, one step at a time

@@ -34,7 +34,7 @@ shown (Enhanced place message) = Enhanced place (record { configuration = Data12
 shown (Fault fault) = Fault fault
 
 -- reports with one line are of one channel and one time, and what a line shows of them is the same
-abbrev pub LinesTellReportsApart : Type 0
+unfoldable pub LinesTellReportsApart : Type 0
 LinesTellReportsApart =
     (n : ℕ) (side side' : Side) (time time' : ℕ) (report report' : LineReport)
     → time < 2 ^ 40 → time' < 2 ^ 40 → InTypes report → InTypes report' → ShownWhole n report → ShownWhole n report'

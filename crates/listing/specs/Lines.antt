@@ -1,7 +1,7 @@
 -- The lines of a listing, as bytes.
 use Rattle.std.specs.Prelude.{ℕ, ◌%◌, ◌^◌, cond, ◌||◌, List, [], ◌∷◌, ◌++◌, map, take, Some, None, codes, decimal, Option, nat_le, nat_lt, slice_index}
 use Rattle.model.specs.declared.side.Side.{Side}
-use Rattle.model.specs.declared.side.Side.TheVariants.{A as ChannelA, B as ChannelB}
+use Rattle.model.specs.Sides.{side_letter}
 use Rattle.model.specs.Faults.{number}
 use Rattle.pulses.specs.Frames.{unpacked}
 use Rattle.unitfile.specs.declared.file.FileRefusal.{FileRefusal}
@@ -18,10 +18,6 @@ hex_digit v = slice_index (codes "0123456789ABCDEF") v
 -- the only byte of a text of one
 abbrev pub letter : List ℕ → ℕ
 letter text = slice_index text 0
-
-abbrev pub side_letter : Side → ℕ
-side_letter ChannelA = letter (codes "A")
-side_letter ChannelB = letter (codes "B")
 
 -- the letter that says what a line tells: a frame, a message, or a fault
 abbrev pub kind_letter : LineReport → ℕ

@@ -9,8 +9,8 @@ use crate::line::MOST_BYTES;
 use crate::page::Page;
 use formats::enhanced::Enhanced;
 use formats::short::Short;
+use model::feed::Feed;
 use model::source::EdgeSource;
-use receiver::fed::Feed;
 use receiver::unit::Receiver;
 use unitfile::file::UnitFile;
 
@@ -18,15 +18,14 @@ use unitfile::file::UnitFile;
 const BLOCK: usize = 4_096;
 
 // Appends to a listing that has the room already.
+// Bytes, length and room are said apart in this and the three that use it: `pass_on` keeps bytes back, the others only bound the length.
 fn append(listing: &mut Vec<u8>, bytes: &[u8])
     requires { vec_len listing.old + length bytes.now ≤ vec_capacity listing.old }
     ensures items { listing.new.items ≡ listing.old.items ++ bytes.now }
     ensures len { vec_len listing.new ≡ vec_len listing.old + length bytes.now }
     ensures capacity { vec_capacity listing.old ≤ vec_capacity listing.new }
 {
-    let Ok(()) = listing.extend_from_slice(bytes) else {
-        unreachable()
-    };
+    listing.extend_from_slice(bytes).unwrap();
 }
 
 // Passes the bytes of a page on to the listing, once the page has no room for the lines of another step.
@@ -85,7 +84,7 @@ pub enum ListRefusal {
 pub fn room_for(length: usize) -> usize
     ensures { result ≡ ceiling length }
 {
-    24 * length.min(60_000) + 48
+    24 * length.min(unitfile::file::MOST_BYTES) + 48
 }
 
 fn make_listing(input: &[u8], out: &mut Vec<u8>) -> Verdict
@@ -97,15 +96,7 @@ fn make_listing(input: &[u8], out: &mut Vec<u8>) -> Verdict
 {
     match UnitFile::read(input) {
         Ok(file) => {
-            let (counter, log) = file.open();
-            let a = Feed {
-                source: counter,
-                settings: file.a.settings,
-            };
-            let b = Feed {
-                source: log,
-                settings: file.b.settings,
-            };
+            let (a, b) = file.open();
             list_unit(a, b, out);
             Verdict::Accepted
         }

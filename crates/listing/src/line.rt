@@ -2,7 +2,9 @@
 #![tactic(auto, using(crate::proofs::Sizes::sizes), unfolding(crate::specs::Lines::four_fields))]
 
 ghost use Rattle.std.specs.Prelude.{◌≡◌, ◌+◌, ◌^◌, ◌<◌, ◌≤◌, ◌++◌, length, decimal};
-ghost use Rattle.listing.specs.Lines.{side_letter, details, following, lettered, four_fields, line, closing_line, refused_letter, refusal_line};
+ghost use Rattle.model.specs.Sides.{side_letter};
+ghost use Rattle.listing.specs.Lines.{details, following, lettered, four_fields, line, closing_line, refused_letter, refusal_line};
+ghost use Rattle.listing.specs.Pages.{Grows};
 ghost use Rattle.listing.specs.Written.{LineWritten};
 ghost use Rattle.listing.specs.Worked.{WorkedLines};
 ghost use Rattle.listing.specs.Laws.{NoLineLongerThan48, LinesTellReportsApart};
@@ -17,6 +19,7 @@ use unitfile::file::FileRefusal;
 pub const MOST_BYTES: usize = 48;
 
 // Of which channel a line tells, how many data nibbles its frames have, and at what time.
+// A `Line` is a caller's and holds any numbers; a head is within its limits.
 #[derive(Clone, Copy)]
 pub(crate) struct Head {
     pub(crate) side: Side,
@@ -29,10 +32,7 @@ pub(crate) struct Head {
 pub(crate) fn letter_of(side: Side) -> u8
     ensures { result ≡ side_letter side }
 {
-    match side {
-        Side::A => b'A',
-        Side::B => b'B',
-    }
+    side.letter() as u8
 }
 
 // The letter of the refused channel, or a dash where it is the file as a whole.
@@ -42,6 +42,7 @@ fn refused_letter(side: Option<Side>) -> u8
     side.map_or(b'-', letter_of)
 }
 
+// Each writer asks for room: a page may be full, so no invariant can say that there is some.
 impl<const N: usize> Page<N> {
     // A letter, a number, a letter and a number: channel, time, kind and place of a report.
     fn four_fields(&mut self, first: u8, number: u64, second: u8, place: u32)
@@ -55,7 +56,7 @@ impl<const N: usize> Page<N> {
         self.space();
         self.push(second);
         self.space();
-        self.decimal(place as u64);
+        self.decimal(u64::from(place));
     }
 
     // A letter and two numbers, which end a line.
@@ -65,9 +66,9 @@ impl<const N: usize> Page<N> {
     {
         self.push(letter);
         self.space();
-        self.decimal(first as u64);
+        self.decimal(u64::from(first));
         self.space();
-        self.decimal(second as u64);
+        self.decimal(u64::from(second));
         self.end();
     }
 
@@ -84,17 +85,17 @@ impl<const N: usize> Page<N> {
                 self.push(hex(frame.status()) as u8);
                 self.space();
                 let values = frame.nibbles();
-                self.nibbles(&values[..nibbles as usize]);
+                self.nibbles(&values[..usize::from(nibbles)]);
                 self.end();
             }
             LineReport::Short { message, .. } => {
-                self.lettered(b'S', message.id as u32, message.data as u32);
+                self.lettered(b'S', u32::from(message.id), u32::from(message.data));
             }
             LineReport::Enhanced { message, .. } => {
-                self.lettered(b'E', message.id as u32, message.data as u32);
+                self.lettered(b'E', u32::from(message.id), u32::from(message.data));
             }
             LineReport::Fault(fault) => {
-                self.decimal(fault.kind.number() as u64);
+                self.decimal(u64::from(fault.kind.number()));
                 self.end();
             }
         }
@@ -104,8 +105,7 @@ impl<const N: usize> Page<N> {
     #[tactic(auto, unfolding(crate::specs::Lines::line))]
     pub(crate) fn line(&mut self, head: Head, report: LineReport)
         requires { length self.old + 48 ≤ N }
-        ensures wrote { self.new ≡ self.old ++ line head.side head.nibbles head.time report }
-        ensures short { length self.new ≤ length self.old + 48 }
+        ensures { Grows self.old self.new (line head.side head.nibbles head.time report) 48 }
     {
         self.four_fields(
             letter_of(head.side),
@@ -119,8 +119,7 @@ impl<const N: usize> Page<N> {
     // The closing line: how many frames each channel received.
     pub(crate) fn closing(&mut self, frames_a: u32, frames_b: u32)
         requires { length self.old + 48 ≤ N }
-        ensures wrote { self.new ≡ self.old ++ closing_line frames_a frames_b }
-        ensures short { length self.new ≤ length self.old + 48 }
+        ensures { Grows self.old self.new (closing_line frames_a frames_b) 48 }
     {
         self.lettered(b'Z', frames_a, frames_b);
     }
@@ -128,12 +127,11 @@ impl<const N: usize> Page<N> {
     // The line that stands for a refused file.
     pub(crate) fn refusal(&mut self, refusal: FileRefusal)
         requires { length self.old + 48 ≤ N }
-        ensures wrote { self.new ≡ self.old ++ refusal_line refusal }
-        ensures short { length self.new ≤ length self.old + 48 }
+        ensures { Grows self.old self.new (refusal_line refusal) 48 }
     {
         self.four_fields(
             b'R',
-            refusal.number() as u64,
+            u64::from(refusal.number()),
             refused_letter(refusal.side()),
             refusal.place(),
         );
@@ -151,9 +149,14 @@ pub struct Line {
 }
 
 impl Line {
-    // The tests in their order, and then the line.
-    fn write_checked(self, buffer: &mut [u8]) -> Result<usize, LineRefusal>
-        ensures { LineWritten self buffer.old buffer.new result }
+    // Writes the line into a buffer, and answers how many bytes that took; what stands behind them stays.
+    // A refusal writes nothing.
+    #[tactic(auto, using(crate::proofs::Sizes::lines_short, crate::proofs::Apart::reports_told_apart, crate::proofs::Reading::worked_lines))]
+    pub fn write(self, buffer: &mut [u8]) -> Result<usize, LineRefusal>
+        ensures written { LineWritten self buffer.old buffer.new result }
+        ensures no_line_longer_than_48 { NoLineLongerThan48 }
+        ensures lines_tell_reports_apart { LinesTellReportsApart }
+        ensures lines_read_so { WorkedLines }
     {
         let Line {
             side,
@@ -182,16 +185,5 @@ impl Line {
         let count = page.len();
         buffer[..count].copy_from_slice(page.as_slice());
         Ok(count)
-    }
-
-    // Writes the line into a buffer, and answers how many bytes that took; what stands behind them stays.
-    // A refusal writes nothing.
-    pub fn write(self, buffer: &mut [u8]) -> Result<usize, LineRefusal>
-        ensures written { LineWritten self buffer.old buffer.new result }
-        ensures no_line_longer_than_48 { NoLineLongerThan48 }
-        ensures lines_tell_reports_apart { LinesTellReportsApart }
-        ensures lines_read_so { WorkedLines }
-    {
-        self.write_checked(buffer)
     }
 }

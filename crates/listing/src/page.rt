@@ -5,8 +5,7 @@ ghost use Rattle.listing.specs.Lines.{hex_digit};
 use itoa::write_digits;
 use std::marker::Model;
 
-// Bytes that are gathered, in room for N. A `Vec` or an `ArrayVec` takes each number by way of a second buffer: some 190 instructions a line,
-// where a page takes 110.
+// Bytes that are gathered, in room for N: some 110 instructions a line, where a `Vec` or `ArrayVec` takes 190, each number by a second buffer.
 #[derive(Drop)]
 pub(crate) struct Page<const N: usize> {
     bytes: [u8; N],
@@ -97,7 +96,7 @@ impl<const N: usize> Page<N> {
     }
 }
 
-// The upper-case hexadecimal digit of a nibble, as a letter: marks and letters are matched as such everywhere.
+// The upper-case hexadecimal digit of a nibble: digits and letters are matched as chars here, as marks are.
 pub(crate) fn hex(nibble: u8) -> char
     requires { nibble < 16 }
     ensures digit { result ≡ hex_digit nibble }
@@ -127,8 +126,5 @@ pub(crate) fn hex(nibble: u8) -> char
 fn digit_count(n: u64) -> usize
     ensures { result ≡ length (decimal n) }
 {
-    if n == 0 {
-        return 1;
-    }
-    n.ilog10() as usize + 1
+    n.checked_ilog10().unwrap_or(0) as usize + 1
 }

@@ -1,6 +1,7 @@
 // The lines of a step.
-ghost use Rattle.std.specs.Prelude.{◌≡◌, ◌+◌, ◌^◌, ◌<◌, ◌≤◌, ◌++◌, length};
+ghost use Rattle.std.specs.Prelude.{◌+◌, ◌^◌, ◌<◌, ◌≤◌, ◌++◌, length};
 ghost use Rattle.listing.specs.Listings.{pulse_lines, serial_lines, step_lines, step_time};
+ghost use Rattle.listing.specs.Pages.{Grows};
 
 use crate::line::Head;
 use crate::page::Page;
@@ -16,8 +17,7 @@ use serial::report::SerialReport;
 impl<const N: usize> Page<N> {
     fn pulse(&mut self, head: Head, outcome: Outcome)
         requires { length self.old + 48 ≤ N }
-        ensures wrote { self.new ≡ self.old ++ pulse_lines head.side head.nibbles head.time outcome }
-        ensures short { length self.new ≤ length self.old + 48 }
+        ensures { Grows self.old self.new (pulse_lines head.side head.nibbles head.time outcome) 48 }
     {
         match outcome {
             Outcome::Quiet | Outcome::Skipped => {}
@@ -28,8 +28,7 @@ impl<const N: usize> Page<N> {
 
     fn serial<M: LineMessage>(&mut self, head: Head, serial: Option<SerialReport<M>>)
         requires { length self.old + 48 ≤ N }
-        ensures wrote { self.new ≡ self.old ++ serial_lines M.told head.side head.nibbles head.time serial }
-        ensures short { length self.new ≤ length self.old + 48 }
+        ensures { Grows self.old self.new (serial_lines M.told head.side head.nibbles head.time serial) 48 }
     {
         match serial {
             None => {}
@@ -39,11 +38,21 @@ impl<const N: usize> Page<N> {
     }
 
     // What a channel reports at one event: the pulse line before the serial line.
-    fn reports<M: LineMessage>(&mut self, head: Head, reports: Reports<M>)
-        requires { length self.old + 96 ≤ N }
-        ensures wrote { self.new ≡ self.old ++ (pulse_lines head.side head.nibbles head.time reports.pulse ++ serial_lines M.told head.side head.nibbles head.time reports.serial) }
-        ensures short { length self.new ≤ length self.old + 96 }
+    fn reports<M: LineMessage>(
+        &mut self,
+        side: Side,
+        settings: Settings,
+        time: u64,
+        reports: Reports<M>,
+    )
+        requires { (time < 2 ^ 40) × (length self.old + 96 ≤ N) }
+        ensures { Grows self.old self.new (pulse_lines side settings.nibbles time reports.pulse ++ serial_lines M.told side settings.nibbles time reports.serial) 96 }
     {
+        let head = Head {
+            side,
+            nibbles: settings.nibbles(),
+            time,
+        };
         self.pulse(head, reports.pulse);
         self.serial(head, reports.serial);
     }
@@ -55,26 +64,11 @@ impl<const N: usize> Page<N> {
         step: Step<ShortMessage, EnhancedMessage>,
     )
         requires { (step_time step < 2 ^ 40) × (length self.old + 96 ≤ N) }
-        ensures wrote { self.new ≡ self.old ++ step_lines a.nibbles b.nibbles step }
-        ensures short { length self.new ≤ length self.old + 96 }
+        ensures { Grows self.old self.new (step_lines a.nibbles b.nibbles step) 96 }
     {
         match step {
-            Step::A { time, reports } => {
-                let head = Head {
-                    side: Side::A,
-                    nibbles: a.nibbles(),
-                    time,
-                };
-                self.reports(head, reports);
-            }
-            Step::B { time, reports } => {
-                let head = Head {
-                    side: Side::B,
-                    nibbles: b.nibbles(),
-                    time,
-                };
-                self.reports(head, reports);
-            }
+            Step::A { time, reports } => self.reports(Side::A, a, time, reports),
+            Step::B { time, reports } => self.reports(Side::B, b, time, reports),
         }
     }
 }

@@ -1,8 +1,5 @@
--- Lists of nibbles.
-use Rattle.std.proofs.Common.{◌≡◌, ℕ, zero, suc, ◌%◌, ◌<◌, List, [], ◌∷◌, map, length, get_or, take, drop, refl, arith, lit<}
-
-abbrev pub Small : List ℕ → Type 0
-Small vs = (i : ℕ) → get_or vs i 0 < 16
+-- Lists of six and seven nibbles, by their elements.
+use Rattle.std.proofs.Common.{◌≡◌, ℕ, List, [], ◌∷◌, length, get_or, drop, refl, arith}
 
 -- a list of six, by its elements
 abbrev pub listed : List ℕ → List ℕ
@@ -23,22 +20,3 @@ pub six_behind : (xs : List ℕ) → length xs ≡ 7
     → (get_or xs 1 0 ∷ get_or xs 2 0 ∷ get_or xs 3 0 ∷ get_or xs 4 0 ∷ get_or xs 5 0 ∷ get_or xs 6 0 ∷ []) ≡ drop 1 xs
 six_behind [] e = absurd (omega (arith, e))
 six_behind (x ∷ xs) e = six_listed xs (omega (arith, e))
-
-pub drop_small : (n : ℕ) (xs : List ℕ) → Small xs → Small (drop n xs)
-drop_small zero xs h i = h i
-drop_small (suc n) [] h i = lit< tt
-drop_small (suc n) (x ∷ xs) h i = drop_small n xs (λ j. h (suc j)) i
-
-pub take_small : (n : ℕ) (xs : List ℕ) → Small xs → Small (take n xs)
-take_small zero xs h i = lit< tt
-take_small (suc n) [] h i = lit< tt
-take_small (suc n) (x ∷ xs) h zero = h 0
-take_small (suc n) (x ∷ xs) h (suc i) = take_small n xs (λ j. h (suc j)) i
-
--- nibbles are their own low four bits
-pub low_bits : (xs : List ℕ) → Small xs → map (λ v. v % 16) xs ≡ xs
-low_bits [] h = refl
-low_bits (x ∷ xs) h =
-    let first : x % 16 ≡ x = omega (arith, h 0) in
-    let rest : map (λ v. v % 16) xs ≡ xs = low_bits xs (λ i. h (suc i)) in
-    cc

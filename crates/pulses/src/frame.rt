@@ -13,6 +13,7 @@ pub struct Frame {
 }
 
 // A frame as plain numbers, for where it is stored or handed on: its six data nibbles stand in one number, the first highest.
+// Its type states no limits, since anyone may make a row: whoever hands one out states them, and the way back drops other bits.
 #[derive(Clone, Copy, PartialEq, Eq, Debug)]
 pub struct FrameRow {
     pub place: u32,

@@ -49,7 +49,8 @@ impl Partial {
         ticks(self.calibration, interval)
     }
 
-    // The frame with one nibble more. It is built anew, which takes fewer moves than writing to a copy of the whole.
+    // The frame with one nibble more. It is built anew: a struct with facts of its own takes no `..self`, and writing to a copy of
+    // the whole takes more moves.
     pub(crate) fn with_nibble(self, nibble: u8) -> Partial
         requires room { self.count < 7 }
         requires small { nibble < 16 }

@@ -1,5 +1,5 @@
 -- What the code's channel stands for.
-use Rattle.std.specs.Prelude.{ℕ, Option}
+use Rattle.std.specs.Prelude.{Option}
 use Rattle.model.specs.declared.settings.Settings.{Settings}
 use Rattle.model.specs.declared.event.Event.{Event}
 use Rattle.pulses.specs.declared.decoder.Decoder.{Decoder}
@@ -8,6 +8,7 @@ use Rattle.pulses.specs.Decoding.{state_of as pulse_state}
 use Rattle.serial.specs.declared.window.Window.{Window}
 use Rattle.serial.specs.Format.{Format}
 use Rattle.serial.specs.Windows.{kept}
+use Rattle.receiver.specs.declared.answer.Figures.{Figures}
 use Rattle.receiver.specs.declared.answer.Reports.{Reports}
 use Rattle.receiver.specs.Channels.{Rules, ChannelState, fresh, reports, given}
 
@@ -17,11 +18,11 @@ pub record ChannelStanding : Type 0 where
   pub state : ChannelState
 
 -- the channel that is meant by its parts
-abbrev pub channel_of : {F : Type 0} → Decoder → Window F → Option FrameRow → ℕ → ℕ → ChannelStanding
-channel_of decoder window latest frames faults =
+abbrev pub channel_of : {F : Type 0} → Decoder → Window F → Option FrameRow → Figures → ChannelStanding
+channel_of decoder window latest figures =
     record {
       settings = decoder.settings;
-      state = record { pulses = pulse_state decoder; kept = kept window; latest = latest; frames = frames; faults = faults };
+      state = record { pulses = pulse_state decoder; kept = kept window; latest = latest; frames = figures.frames; faults = figures.faults };
     }
 
 -- a newly prepared channel, set up so

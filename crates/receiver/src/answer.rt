@@ -6,7 +6,7 @@ use pulses::outcome::Outcome;
 use serial::report::SerialReport;
 
 // What a channel reports at one event: the outcome of its pulses and, after a frame, what its serial pairs then tell.
-#[derive(Clone, Copy)]
+#[derive(Clone, Copy, PartialEq, Eq, Debug)]
 pub struct Reports<M> {
     pub pulse: Outcome,
     pub serial: Option<SerialReport<M>>,
@@ -14,7 +14,7 @@ pub struct Reports<M> {
 
 // A step of the unit: the channel that was given an event, the event's time, and what the channel reported. The messages of the two
 // channels are of two types.
-#[derive(Clone, Copy)]
+#[derive(Clone, Copy, PartialEq, Eq, Debug)]
 pub enum Step<X, Y> {
     A { time: u64, reports: Reports<X> },
     B { time: u64, reports: Reports<Y> },
@@ -28,20 +28,22 @@ pub enum StepRefusal {
 }
 
 // What can be looked at without a step.
-#[derive(Clone, Copy)]
+#[derive(Clone, Copy, PartialEq, Eq, Debug)]
 pub enum Subject {
     // the reading of a channel
     Reading(Side),
 }
 
-#[derive(Clone, Copy)]
+// What is asked of a unit: plain data and no method, because a run is a list of calls.
+#[derive(Clone, Copy, PartialEq, Eq, Debug)]
 pub enum Call {
     Step,
     Look(Subject),
 }
 
-// The answer to a call. A step's refusal is a case of its own, so that one match tells all answers of a run apart.
-#[derive(Clone, Copy)]
+// The answer to a call: one case for each way that a call can end. A step's refusal is not nested in a `Result`, since a run's
+// definitions match on the three flat cases.
+#[derive(Clone, Copy, PartialEq, Eq, Debug)]
 pub enum Answer<X, Y> {
     Stepped(Step<X, Y>),
     Refused(StepRefusal),
@@ -56,7 +58,7 @@ pub struct Figures {
 }
 
 // The figures of both channels of a unit that was closed.
-#[derive(Clone, Copy)]
+#[derive(Clone, Copy, PartialEq, Eq, Debug)]
 pub struct Closing {
     pub a: Figures,
     pub b: Figures,

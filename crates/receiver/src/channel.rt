@@ -1,4 +1,5 @@
 // One channel: pulses, serial pairs, the latest frame, and counts.
+use crate::answer::Figures;
 use pulses::decoder::Decoder;
 use pulses::frame::FrameRow;
 use serial::window::Window;
@@ -10,8 +11,7 @@ pub struct Channel<F> {
     decoder: Decoder,
     window: Window<F>,
     latest: Option<FrameRow>,
-    frames: u32,
-    faults: u32,
+    figures: Figures,
 }
 
 // Clauses see how the channel is set up, and its state.
@@ -20,7 +20,7 @@ impl<F> Model for Channel<F> {
 
     ghost Value = { ChannelStanding };
 
-    ghost view = { λ c. channel_of c.decoder c.window c.latest c.frames c.faults };
+    ghost view = { λ c. channel_of c.decoder c.window c.latest c.figures };
 }
 
 pub mod stepping;

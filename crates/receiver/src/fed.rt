@@ -1,4 +1,4 @@
-// What a channel is fed from.
+// A channel beside what it is fed from.
 ghost use Rattle.std.specs.Prelude.{◌≡◌, [], MatchResult};
 ghost use Rattle.model.specs.Events.{rest};
 ghost use Rattle.receiver.specs.declared.answer.StepRefusal.TheVariants.{NoEvent};
@@ -8,16 +8,9 @@ ghost use Rattle.receiver.specs.Units.{TellsFirst, figures};
 
 use crate::answer::{Figures, Reports, StepRefusal};
 use crate::channel::Channel;
-use model::settings::Settings;
+use model::feed::Feed;
 use model::source::EdgeSource;
 use serial::format::SerialFormat;
-
-// A source of events, and how the channel that it is to feed is set up.
-#[derive(Drop)]
-pub struct Feed<S> {
-    pub source: S,
-    pub settings: Settings,
-}
 
 // A channel beside the source that feeds it: one side of a unit.
 pub(crate) struct FedChannel<S, F> {

@@ -3,5 +3,5 @@
 
 pub mod answer;
 pub mod channel;
-pub mod fed;
+mod fed;
 pub mod unit;

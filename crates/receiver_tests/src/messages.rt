@@ -1,9 +1,9 @@
 use captures::absolute::AbsoluteLog;
 use formats::enhanced::{Configuration, Enhanced, EnhancedMessage};
 use formats::short::{Short, ShortMessage};
+use model::feed::Feed;
 use model::settings::Settings;
 use receiver::answer::Step;
-use receiver::fed::Feed;
 use receiver::unit::Receiver;
 use serial::report::SerialReport;
 use std::alloc::{AllocError, Global};
@@ -60,11 +60,10 @@ fn messages_of_both_formats(rt: HostRuntime) -> Result<(), Fail> {
     );
     let mut short = None;
     let mut enhanced = None;
-    for _ in 0..200 {
-        match unit.step() {
-            Ok(Step::A { reports, .. }) => short = told(reports.serial).or(short),
-            Ok(Step::B { reports, .. }) => enhanced = told(reports.serial).or(enhanced),
-            Err(_) => break,
+    for step in (0..200).map_while(|_| unit.step().ok()) {
+        match step {
+            Step::A { reports, .. } => short = told(reports.serial).or(short),
+            Step::B { reports, .. } => enhanced = told(reports.serial).or(enhanced),
         }
     }
     let closing = unit.close();

@@ -3,12 +3,12 @@ use captures::counter::CounterCapture;
 use formats::enhanced::{Enhanced, EnhancedMessage};
 use formats::short::{Short, ShortMessage};
 use model::fault::{Fault, FaultKind};
+use model::feed::Feed;
 use model::settings::{Settings, SettingsRefusal};
 use model::side::Side;
 use pulses::frame::FrameRow;
 use pulses::outcome::Outcome;
-use receiver::answer::{Figures, Step};
-use receiver::fed::Feed;
+use receiver::answer::{Figures, Reports, Step};
 use receiver::unit::Receiver;
 use std::test::Fail;
 
@@ -18,10 +18,23 @@ const COUNTER: &[u8] = b"SC\x00\x00SC\x02\x30SC\x02\xa8SC\x03\x48SC\x03\xe8SC\x0
 // A break, and an edge at 560 counts.
 const LOG: &[u8] = b"SL\x00\x00\x00\x00\x00\x00SA\x00\x00\x00\x00\x02\x30";
 
-fn seen(step: Step<ShortMessage, EnhancedMessage>) -> (char, u64, Outcome) {
-    match step {
-        Step::A { time, reports } => ('A', time, reports.pulse),
-        Step::B { time, reports } => ('B', time, reports.pulse),
+// A step of a channel whose serial pairs tell nothing yet.
+fn step(side: Side, time: u64, pulse: Outcome) -> Step<ShortMessage, EnhancedMessage> {
+    match side {
+        Side::A => Step::A {
+            time,
+            reports: Reports {
+                pulse,
+                serial: None,
+            },
+        },
+        Side::B => Step::B {
+            time,
+            reports: Reports {
+                pulse,
+                serial: None,
+            },
+        },
     }
 }
 
@@ -60,17 +73,17 @@ fn events_go_by_time_and_a_goes_first(rt: HostRuntime) -> Result<(), Fail> {
         place: 5,
     });
     let expected = [
-        ('A', 0, Outcome::Quiet),
-        ('B', 0, lost),
-        ('A', 560, Outcome::Quiet),
-        ('B', 560, Outcome::Quiet),
-        ('A', 680, Outcome::Quiet),
-        ('A', 840, Outcome::Quiet),
-        ('A', 1_000, frame),
-        ('A', 1_001, off),
+        step(Side::A, 0, Outcome::Quiet),
+        step(Side::B, 0, lost),
+        step(Side::A, 560, Outcome::Quiet),
+        step(Side::B, 560, Outcome::Quiet),
+        step(Side::A, 680, Outcome::Quiet),
+        step(Side::A, 840, Outcome::Quiet),
+        step(Side::A, 1_000, frame),
+        step(Side::A, 1_001, off),
     ];
     for wanted in expected {
-        assert_eq!(rt; unit.step().ok().map(seen), Some(wanted));
+        assert_eq!(rt; unit.step(), Ok(wanted));
     }
     assert!(rt; unit.step().is_err() && unit.step().is_err());
     let closing = unit.close();

@@ -2,10 +2,12 @@ use captures::absolute::AbsoluteLog;
 use captures::counter::CounterCapture;
 use formats::enhanced::{Enhanced, EnhancedMessage};
 use formats::short::{Short, ShortMessage};
+use model::feed::Feed;
 use model::settings::Settings;
 use model::side::Side;
-use receiver::answer::{Answer, Call, Step, Subject};
-use receiver::fed::Feed;
+use pulses::frame::FrameRow;
+use pulses::outcome::Outcome;
+use receiver::answer::{Answer, Call, Reports, Step, StepRefusal, Subject};
 use runs::run::run;
 use std::test::Fail;
 
@@ -24,16 +26,15 @@ fn feeds(settings: Settings) -> (Feed<CounterCapture<'static>>, Feed<AbsoluteLog
     (a, b)
 }
 
-// A letter for each answer: of a step its channel, of a refusal R, and of a reading 4, a hyphen for none, or another.
-fn letter(answer: Answer<ShortMessage, EnhancedMessage>) -> char {
-    match answer {
-        Answer::Stepped(Step::A { .. }) => 'A',
-        Answer::Stepped(Step::B { .. }) => 'B',
-        Answer::Refused(_) => 'R',
-        Answer::Reading(None) => '-',
-        Answer::Reading(Some(4)) => '4',
-        Answer::Reading(Some(_)) => '?',
-    }
+// A step of channel A, whose serial pairs tell nothing yet.
+fn stepped(time: u64, pulse: Outcome) -> Answer<ShortMessage, EnhancedMessage> {
+    Answer::Stepped(Step::A {
+        time,
+        reports: Reports {
+            pulse,
+            serial: None,
+        },
+    })
 }
 
 #[test]
@@ -52,9 +53,30 @@ fn looks_stand_between_steps(rt: HostRuntime) -> Result<(), Fail> {
     let _ = outcome.unwrap_or_else(|refused| refused.unit).close();
     assert!(rt; made);
     assert_eq!(rt; out.len(), 12);
-    let wanted = ['-', 'A', 'A', 'A', 'A', '-', 'A', '4', '-', 'R', 'R', '4'];
+    let none = Answer::Reading(None);
+    let four = Answer::Reading(Some(4));
+    let refused = Answer::Refused(StepRefusal::NoEvent);
+    let frame = Outcome::Framed(FrameRow {
+        place: 0,
+        status: 0,
+        packed: 0x40_0000,
+    });
+    let wanted = [
+        none,
+        stepped(0, Outcome::Quiet),
+        stepped(560, Outcome::Quiet),
+        stepped(680, Outcome::Quiet),
+        stepped(840, Outcome::Quiet),
+        none,
+        stepped(1_000, frame),
+        four,
+        none,
+        refused,
+        refused,
+        four,
+    ];
     for (answer, told) in out.iter().zip(wanted) {
-        assert_eq!(rt; letter(*answer), told);
+        assert_eq!(rt; *answer, told);
     }
     Ok(())
 }

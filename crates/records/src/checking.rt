@@ -18,13 +18,14 @@ impl CheckRefusal {
     pub fn number(self) -> u16
         ensures { result ≡ check_number self }
     {
+        // no case carries its number: one of them holds a flaw with one of its own
         match self {
             CheckRefusal::Length => 1,
             CheckRefusal::Flawed { flaw, .. } => flaw as u16,
         }
     }
 
-    // The record that is named, or 0 where none is.
+    // The record that is named, or 0 where none is: the line of a refusal has 0 for its last field then.
     pub fn place(self) -> u32
         ensures { result ≡ check_record self }
     {
@@ -35,26 +36,17 @@ impl CheckRefusal {
     }
 }
 
-// The check of a capture of either kind.
+// The check of a capture of either kind: the length first, then the records up to the first that is bad.
 pub fn check<K: Recording>(bytes: &[u8]) -> Result<(), CheckRefusal>
     ensures verdict { MatchResult result (λ _. checked K.kind bytes.now ≡ None) (λ e. checked K.kind bytes.now ≡ Some e) }
     ensures refused_by_the_first_bad_record { RefusedByTheFirstBadRecord K.kind bytes.now }
-{
-    verdict::<K>(bytes)
-}
-
-// What the check finds: the length first, then the records up to the first that is bad.
-fn verdict<K: Recording>(bytes: &[u8]) -> Result<(), CheckRefusal>
-    ensures { MatchResult result (λ _. checked K.kind bytes.now ≡ None) (λ e. checked K.kind bytes.now ≡ Some e) }
 {
     if bytes.len() > MOST_BYTES || bytes.len() % K::SIZE != 0 {
         return Err(CheckRefusal::Length);
     }
     for (place, record) in Records::<K>::of(bytes).enumerate() {
-        if let Some(flaw) = K::flaw(record) {
-            let place = place as u32;
-            return Err(CheckRefusal::Flawed { place, flaw });
-        }
+        let place = place as u32;
+        K::check(record).map_err(|flaw| CheckRefusal::Flawed { place, flaw })?;
     }
     Ok(())
 }

@@ -1,5 +1,5 @@
 // The records of both kinds of capture, cut out of their bytes.
-ghost use Rattle.std.specs.Prelude.{◌≡◌, ◌+◌, ◌^◌, ◌<◌, ℕ, List, [], ◌∷◌, length, refl, MatchOption};
+ghost use Rattle.std.specs.Prelude.{◌≡◌, ◌+◌, ◌^◌, ◌<◌, ℕ, List, [], ◌∷◌, length, refl, None, Some, MatchOption, MatchResult};
 ghost use Rattle.std.specs.Iterator.{YieldsFirst, item_count};
 ghost use Rattle.records.specs.Kinds.{Kind, Counter as OfCounter, Log as OfLog};
 ghost use Rattle.records.specs.Records.{size, records, zero_filler, timely, flaw_of};
@@ -10,7 +10,7 @@ use std::marker::PhantomData;
 // The most bytes that a capture may have.
 pub const MOST_BYTES: usize = 24_576;
 
-// A record as it is written: the two letters of its mark, and the number that its other bytes make.
+// A record as it is written: the first letter of its mark (`mark`), the second (`letter`), and the number that its other bytes make.
 #[derive(Clone, Copy)]
 pub struct Record {
     pub mark: u8,
@@ -49,9 +49,9 @@ pub trait Recording: Copy {
     fn first_record(bytes: &[u8]) -> Option<Cut<'_>>
         ensures { MatchOption result (records kind bytes.now ≡ []) (λ c. (records kind bytes.now ≡ c.record ∷ records kind c.rest.now) × (length c.rest.now + size kind ≡ length bytes.now)) };
 
-    // What is wrong with a record of this kind, if anything is.
-    fn flaw(of: Record) -> Option<Flaw>
-        ensures { result ≡ flaw_of kind of };
+    // Whether a record of this kind is sound, or what is wrong with it.
+    fn check(of: Record) -> Result<(), Flaw>
+        ensures { MatchResult result (λ _. flaw_of kind of ≡ None) (λ f. flaw_of kind of ≡ Some f) };
 
     // that this is the size which the kind's records are defined to have
     ghost size_is_the_kinds: { SIZE ≡ size kind };
@@ -100,16 +100,24 @@ pub struct Counter;
 #[derive(Clone, Copy)]
 pub struct Log;
 
-fn filler(value: u64) -> Option<Flaw>
-    ensures { result ≡ zero_filler value }
+fn filler(value: u64) -> Result<(), Flaw>
+    ensures { MatchResult result (λ _. zero_filler value ≡ None) (λ f. zero_filler value ≡ Some f) }
 {
-    (value != 0).then_some(Flaw::Content)
+    if value == 0 {
+        Ok(())
+    } else {
+        Err(Flaw::Content)
+    }
 }
 
-fn timely(value: u64) -> Option<Flaw>
-    ensures { result ≡ timely value }
+fn timely(value: u64) -> Result<(), Flaw>
+    ensures { MatchResult result (λ _. timely value ≡ None) (λ f. timely value ≡ Some f) }
 {
-    (value >= TIME_LIMIT).then_some(Flaw::Content)
+    if value < TIME_LIMIT {
+        Ok(())
+    } else {
+        Err(Flaw::Content)
+    }
 }
 
 impl Recording for Counter {
@@ -137,11 +145,11 @@ impl Recording for Counter {
         Some(Cut { record, rest })
     }
 
-    fn flaw(of: Record) -> Option<Flaw> {
+    fn check(of: Record) -> Result<(), Flaw> {
         match (of.mark as char, of.letter as char) {
-            ('S', 'C') => None,
+            ('S', 'C') => Ok(()),
             ('S', 'O' | 'L') => filler(of.value),
-            _ => Some(Flaw::Mark),
+            _ => Err(Flaw::Mark),
         }
     }
 }
@@ -171,11 +179,11 @@ impl Recording for Log {
         Some(Cut { record, rest })
     }
 
-    fn flaw(of: Record) -> Option<Flaw> {
+    fn check(of: Record) -> Result<(), Flaw> {
         match (of.mark as char, of.letter as char) {
             ('S', 'A') => timely(of.value),
             ('S', 'L') => filler(of.value),
-            _ => Some(Flaw::Mark),
+            _ => Err(Flaw::Mark),
         }
     }
 }

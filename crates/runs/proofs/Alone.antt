@@ -1,23 +1,20 @@
 -- A channel is undisturbed: what it reports in any run begins what it reports beside an empty source.
-use Rattle.std.proofs.Common.{◌≡◌, ℕ, Bool, true, false, cond, ltb, List, [], ◌∷◌, ◌++◌, length, Some, sym, refl, ap, ◌∙◌, append_assoc, append-nil, arith}
+use Rattle.std.proofs.Common.{◌≡◌, ℕ, List, [], ◌∷◌, ◌++◌, length, sym, refl, ap, ◌∙◌, append-nil}
+use Rattle.std.proofs.lemmas.Grind.{flat_map-append}
 use Rattle.model.specs.declared.event.Event.{Event}
 use Rattle.model.specs.declared.side.Side.{Side}
 use Rattle.model.specs.declared.side.Side.TheVariants.{A as SideA, B as SideB}
-use Rattle.model.specs.Events.{time_of}
 use Rattle.receiver.specs.declared.answer.Call.{Call}
 use Rattle.receiver.specs.declared.answer.Call.TheVariants.{Step as StepCall}
 use Rattle.receiver.specs.declared.answer.StepRefusal.TheVariants.{NoEvent}
 use Rattle.receiver.specs.declared.answer.Answer.TheVariants.{Refused}
 use Rattle.receiver.specs.Channels.{Rules, ChannelState, fresh, given}
-use Rattle.receiver.specs.Units.{Setup, UnitState, left, new, step_answer, answer, answers, after_all}
-use Rattle.runs.specs.Traces.{collect, Said, said_by, Timed, timed, timed_reports}
+use Rattle.receiver.specs.Units.{Setup, UnitState, left, new, answer, answers, after_all}
+use Rattle.runs.specs.Traces.{Said, said_by, Timed, timed, timed_reports}
 use Rattle.runs.specs.Law.{beside_empty, steps, RunsOut, reports_alone, Undisturbed}
+use Rattle.runs.proofs.Turns.{refused_only}
 use Rattle.runs.proofs.Heard.{heard_after}
 use Rattle.runs.proofs.Tracing.{spoken, spoken_append, Advance, run_advances}
-
-collect_append : {X Y : Type 0} (f : X → List Y) (xs ys : List X) → collect f (xs ++ ys) ≡ collect f xs ++ collect f ys
-collect_append f [] ys = refl
-collect_append f (x ∷ xs) ys = ap (λ (zs : List _). f x ++ zs) (collect_append f xs ys) ∙ sym (append_assoc (f x) (collect f xs) (collect f ys))
 
 -- what has been reported, and what would be reported of the rest, is what is reported of all
 module _ {M : Type 0} {rules : Rules M} {c : ChannelState} {es : List Event} {said : List (Said M)} {then : ChannelState} {left_over : List Event} (a : Advance rules c es said then left_over) where
@@ -28,7 +25,7 @@ module _ {M : Type 0} {rules : Rules M} {c : ChannelState} {es : List Event} {sa
   unfolding yet_to_come
   reports_of_all =
       ap (λ (xs : List (Said M)). timed_reports xs ++ yet_to_come) a.said_of_them
-      ∙ sym (collect_append timed (spoken rules c a.taken) (spoken rules (heard_after rules c a.taken) left_over))
+      ∙ sym (flat_map-append timed (spoken rules c a.taken) (spoken rules (heard_after rules c a.taken) left_over))
       ∙ ap timed_reports (sym (spoken_append rules c a.taken left_over))
       ∙ ap (λ (fs : List Event). timed_reports (spoken rules c fs)) (sym a.the_first_ones)
 
@@ -42,21 +39,9 @@ module _ {X Y : Type 0} (s : Setup X Y) where
   abbrev unit_of : List Event → List Event → ChannelState → ChannelState → UnitState
   unit_of xs ys c c' = record { left_a = xs; left_b = ys; channel_a = c; channel_b = c' }
 
-  -- where a step is refused both lists are at their end
-  refused_at_the_end : (xs ys : List Event) (c c' : ChannelState) (d : Side) → answer s (unit_of xs ys c c') StepCall ≡ Refused NoEvent → left (unit_of xs ys c c') d ≡ []
-  refused_at_the_end [] [] c c' SideA h = refl
-  refused_at_the_end [] [] c c' SideB h = refl
-  refused_at_the_end (x ∷ xs) [] c c' SideA h = cc
-  refused_at_the_end (x ∷ xs) [] c c' SideB h = refl
-  refused_at_the_end [] (y ∷ ys) c c' SideA h = refl
-  refused_at_the_end [] (y ∷ ys) c c' SideB h = cc
-  refused_at_the_end (x ∷ xs) (y ∷ ys) c c' d h = absurd (either (ltb (time_of y) (time_of x)) h) where
-    either : (b : Bool) → step_answer s (unit_of (x ∷ xs) (y ∷ ys) c c') (cond b (Some SideB) (Some SideA)) ≡ Refused NoEvent → ⊥
-    either true k = let z : ◌≡◌ {A = ℕ} 0 1 = cc in omega arith
-    either false k = let z : ◌≡◌ {A = ℕ} 0 1 = cc in omega arith
-
   none_left : (u : UnitState) (d : Side) → answer s u StepCall ≡ Refused NoEvent → left u d ≡ []
-  none_left u d h = refused_at_the_end u.left_a u.left_b u.channel_a u.channel_b d h
+  none_left u SideA h = (refused_only s u.channel_a u.channel_b u.left_a u.left_b NoEvent h).0
+  none_left u SideB h = (refused_only s u.channel_a u.channel_b u.left_a u.left_b NoEvent h).1
 
   -- one list alone is at its end after as many steps as it has events
   a_runs_out : (xs : List Event) (c c' : ChannelState) → RunsOut s (unit_of xs [] c c') (length xs)

@@ -1,5 +1,5 @@
 -- What is heard, cut at an entry: the events are cut there, and the rest is heard from the channel after the entry's event.
-use Rattle.std.proofs.Common.{◌≡◌, ℕ, List, [], ◌∷◌, ◌++◌, sym, refl, ap, ◌∙◌, subst, arith}
+use Rattle.std.proofs.Common.{◌≡◌, List, [], ◌∷◌, ◌++◌, sym, refl, ap, ◌∙◌, subst}
 use Rattle.std.proofs.lemmas.List.{map-append}
 use Rattle.model.specs.declared.event.Event.{Event}
 use Rattle.model.specs.declared.event.Event.TheVariants.{Edge}
@@ -18,8 +18,8 @@ module _ {M : Type 0} (rules : Rules M) where
 
   rest_heard : (c : ChannelState) (es : List Event) (before : List (Entry M)) (x : Entry M) (rest : List (Entry M)) → heard rules c es ≡ before ++ x ∷ rest
       → rest ≡ heard rules (given rules (heard_after rules c (events_of before)) x.event) (events_of rest)
-  rest_heard c [] [] x rest e = absurd (let z : ◌≡◌ {A = ℕ} 0 1 = cc in omega arith)
-  rest_heard c [] (b ∷ before) x rest e = absurd (let z : ◌≡◌ {A = ℕ} 0 1 = cc in omega arith)
+  rest_heard c [] [] x rest e = cc
+  rest_heard c [] (b ∷ before) x rest e = cc
   rest_heard c (v ∷ es) [] x rest e =
       let first : record { event = v; said = reports rules c v } ≡ x = cc in
       let others : heard rules (given rules c v) es ≡ rest = cc in

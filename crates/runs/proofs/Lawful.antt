@@ -1,5 +1,5 @@
 -- Every run of the unit is lawful.
-use Rattle.std.proofs.Common.{◌≡◌, ℕ, zero, suc, List, [], ◌∷◌, ◌++◌, take, Some, None, Option, sym, refl, ap, ◌∙◌, subst, arith}
+use Rattle.std.proofs.Common.{◌≡◌, ℕ, zero, suc, List, [], ◌∷◌, ◌++◌, take, Some, None, Option, sym, refl, ap, ◌∙◌, subst}
 use Rattle.model.specs.declared.event.Event.{Event}
 use Rattle.model.specs.declared.side.Side.{Side}
 use Rattle.model.specs.Events.{PrecedesAll, Lawful}
@@ -40,9 +40,9 @@ module _ {X Y : Type 0} (s : Setup X Y) where
 
   -- the answer to a call is that of the unit after the calls before it
   pub answer_at_its_place : (u : UnitState) (k : ℕ) (calls : List Call) (c : Call) → nth_of calls k ≡ Some c → nth_of (answers s u calls) k ≡ Some (answer s (after_all s u (take k calls)) c)
-  answer_at_its_place u zero [] c e = absurd (let z : ◌≡◌ {A = ℕ} 0 1 = cc in omega arith)
+  answer_at_its_place u zero [] c e = cc
   answer_at_its_place u zero (b ∷ cs) c e = let same : b ≡ c = cc in ap (λ (x : Call). Some (answer s u x)) same
-  answer_at_its_place u (suc k) [] c e = absurd (let z : ◌≡◌ {A = ℕ} 0 1 = cc in omega arith)
+  answer_at_its_place u (suc k) [] c e = cc
   answer_at_its_place u (suc k) (b ∷ cs) c e = answer_at_its_place (after s u b) k cs c e
 
   -- the faults of a channel, after some calls

@@ -1,12 +1,13 @@
 -- Windows over a stretch of lawful lists joined: those that match are the lists that stand whole in it.
-use Rattle.std.proofs.Common.{◌≡◌, ℕ, zero, suc, ◌+◌, ◌-◌, ◌%◌, ◌<◌, ◌≤◌, Bool, true, false, cond, ◌&&◌, T, leb, List, [], ◌∷◌, ◌++◌, map, length, get_or, take, drop, sym, refl, ap, ◌∙◌, ap₂, inl, inr, append-nil, mod-eq_of_lt, zero-add, arith, length-append, length-drop}
-use native.Mathlib.Nat.{add-mod_right, zero-mod, mod-add-mod}
+use Rattle.std.proofs.Common.{◌≡◌, ℕ, zero, suc, ◌+◌, ◌-◌, ◌%◌, ◌<◌, ◌≤◌, Bool, true, false, cond, ◌&&◌, T, leb, List, [], ◌∷◌, ◌++◌, map, length, get_or, take, drop, sym, refl, ap, ◌∙◌, ap₂, inl, inr, append-nil, arith, length-append, length-drop}
+use native.Mathlib.Nat.{add-mod_right, zero-mod}
 use Rattle.std.proofs.lemmas.List.{drop-drop, drop-append-le, drop_at, take_at, take-append-le, length-map, take-map, drop-map}
 use Rattle.std.proofs.lemmas.Bool.{cond-true, cond-false, cond_both, cases_lt, le-leb, lt-leb, and_from, and_left, and_right}
 use Rattle.serial.specs.declared.pair.Pair.{Pair}
 use Rattle.serial.specs.Format.{Format, LawfulFormat, joined, AllLawful}
 use Rattle.serial.specs.Windows.{Kept, pairs_of, first_place}
 use Rattle.serial.proofs.Truths.{is_so}
+use Rattle.serial.proofs.Runs.{remains}
 use Rattle.runs.specs.Traces.{Placed}
 use Rattle.runs.specs.Law.{placed, whole_messages}
 use Rattle.runs.proofs.Across.{across, across_append, across_none, across_shifted}
@@ -26,13 +27,6 @@ first_at (suc i) (suc n) (k ∷ ks) h = first_at i (suc n) ks h
 never : (b : Bool) → (T b → ⊥) → b ≡ false
 never true t = absurd (t tt)
 never false t = refl
-
--- past whole groups of n, some more but not n of them leave a remainder
-remains : (n i r : ℕ) → i % n ≡ 0 → 1 ≤ r → r < n → (i + r) % n ≡ 0 → ⊥
-remains n i r whole some few e =
-    let left : r ≡ (i + r) % n =
-    sym (mod-eq_of_lt few) ∙ ap (λ (k : ℕ). k % n) (sym (zero-add r)) ∙ ap (λ (k : ℕ). (k + r) % n) (sym whole) ∙ mod-add-mod i n r in
-    omega arith
 
 module _ {M : Type 0} (f : Format M) where
   -- the message of these pairs, if they match the framing, at a place

@@ -1,5 +1,6 @@
 -- What a channel keeps is told by its trace: the latest frame, the serial pairs and the figures.
-use Rattle.std.proofs.Common.{◌≡◌, ℕ, suc, ◌+◌, ◌-◌, ◌≤◌, Bool, cond, eqb, ltb, leb, List, [], ◌∷◌, ◌++◌, length, drop, Option, sym, refl, ap, ◌∙◌, subst, arith}
+use Rattle.std.proofs.Common.{◌≡◌, ℕ, ◌+◌, ◌-◌, ◌≤◌, Bool, cond, eqb, ltb, leb, List, [], ◌∷◌, ◌++◌, length, drop, Some, None, Option, sym, refl, ap, ◌∙◌, subst, arith}
+use Rattle.std.specs.List.{filter_map, cons_option}
 use Rattle.std.proofs.lemmas.List.{drop_all}
 use Rattle.std.proofs.lemmas.Bool.{cond_both}
 use Rattle.model.specs.declared.event.Event.{Event}
@@ -16,7 +17,7 @@ use Rattle.pulses.specs.declared.outcome.Outcome.TheVariants.{Quiet, Skipped, Fr
 use Rattle.pulses.specs.Intervals.{window, ticks, apart}
 use Rattle.pulses.specs.Frames.{frame_check}
 use Rattle.pulses.specs.Steps.{PulseState, lost, hunting, expecting, inside, Stepped, gives, fault, step}
-use Rattle.series.specs.Series.{frames_of, faults_of}
+use Rattle.series.specs.Series.{frame_in, fault_in}
 use Rattle.serial.specs.Windows.{Kept, last}
 use Rattle.serial.proofs.Runs.{last_last}
 use Rattle.receiver.specs.Channels.{Rules, ChannelState, fresh, kept_of, kept_after, latest_after, capped, frames_after, faults_after, serial_after, outcome_of, reports, given}
@@ -60,8 +61,8 @@ module _ {M : Type 0} (rules : Rules M) (some : 1 ≤ rules.format.size) where
 
   serial_heard : (c : ChannelState) (all : List Kept) → c.kept ≡ last rules.format.size all
       → (es : List Event) (before after : List (Entry M)) (x : Entry M) → heard rules c es ≡ before ++ x ∷ after → ToldAt all (outcomes_of before) x
-  serial_heard c all k [] [] after x is = absurd (let z : ◌≡◌ {A = ℕ} 0 1 = cc in omega arith)
-  serial_heard c all k [] (b ∷ before) after x is = absurd (let z : ◌≡◌ {A = ℕ} 0 1 = cc in omega arith)
+  serial_heard c all k [] [] after x is = cc
+  serial_heard c all k [] (b ∷ before) after x is = cc
   serial_heard c all k (e ∷ es) [] after x is =
       let here : record { event = e; said = reports rules c e } ≡ x = cc in
       let o : Outcome = outcome_of rules c e in
@@ -81,53 +82,48 @@ module _ {M : Type 0} (rules : Rules M) (some : 1 ≤ rules.format.size) where
 
 -- The figures
 
--- a count that stops at its greatest, with so many more
-counted_more : (n more : ℕ) → capped (capped (n + 1) + more) ≡ capped (n + suc more)
-counted_more n more = omega arith
+-- a count once something more may have come; it stops at its greatest
+abbrev more : {X : Type 0} → ℕ → Option X → ℕ
+more n None = n
+more n (Some x) = capped (n + 1)
 
-frames_next : (n : ℕ) (o : Outcome) (os : List Outcome) → capped (frames_after n o + length (frames_of os)) ≡ capped (n + length (frames_of (o ∷ os)))
-frames_next n Quiet os = refl
-frames_next n Skipped os = refl
-frames_next n (Framed r) os = counted_more n (length (frames_of os))
-frames_next n (Failed f) os = refl
+more_next : {X : Type 0} (n : ℕ) (r : Option X) (xs : List X) → capped (more n r + length xs) ≡ capped (n + length (cons_option r xs))
+more_next n None xs = refl
+more_next n (Some x) xs = omega arith
 
-faults_next : (n : ℕ) (o : Outcome) (os : List Outcome) → capped (faults_after n o + length (faults_of os)) ≡ capped (n + length (faults_of (o ∷ os)))
-faults_next n Quiet os = refl
-faults_next n Skipped os = refl
-faults_next n (Framed r) os = refl
-faults_next n (Failed f) os = counted_more n (length (faults_of os))
+more_stops : {X : Type 0} (n : ℕ) (r : Option X) → n ≤ 4294967295 → more n r ≤ 4294967295
+more_stops n None h = h
+more_stops n (Some x) h = omega arith
 
--- a count stays at most its greatest
-frames_stop : (n : ℕ) (o : Outcome) → n ≤ 4294967295 → frames_after n o ≤ 4294967295
-frames_stop n Quiet h = h
-frames_stop n Skipped h = h
-frames_stop n (Framed r) h = omega arith
-frames_stop n (Failed f) h = h
+frames_more : (n : ℕ) (o : Outcome) → frames_after n o ≡ more n (frame_in o)
+frames_more n Quiet = refl
+frames_more n Skipped = refl
+frames_more n (Framed r) = refl
+frames_more n (Failed f) = refl
 
-faults_stop : (n : ℕ) (o : Outcome) → n ≤ 4294967295 → faults_after n o ≤ 4294967295
-faults_stop n Quiet h = h
-faults_stop n Skipped h = h
-faults_stop n (Framed r) h = h
-faults_stop n (Failed f) h = omega arith
+faults_more : (n : ℕ) (o : Outcome) → faults_after n o ≡ more n (fault_in o)
+faults_more n Quiet = refl
+faults_more n Skipped = refl
+faults_more n (Framed r) = refl
+faults_more n (Failed f) = refl
 
 module _ {M : Type 0} (rules : Rules M) where
-  frames_counted : (c : ChannelState) (es : List Event) → c.frames ≤ 4294967295 → (heard_after rules c es).frames ≡ capped (c.frames + length (frames_of (outcomes_of (heard rules c es))))
-  frames_counted c [] h = omega arith
-  frames_counted c (e ∷ es) h =
+  -- either count of a channel, by what it picks from the outcomes
+  counted : {X : Type 0} (pick : Outcome → Option X) (count : ChannelState → ℕ) → ((c : ChannelState) (e : Event) → count (given rules c e) ≡ more (count c) (pick (outcome_of rules c e)))
+      → (c : ChannelState) (es : List Event) → count c ≤ 4294967295
+      → count (heard_after rules c es) ≡ capped (count c + length (filter_map pick (outcomes_of (heard rules c es))))
+  counted pick count goes_on c [] h = omega arith
+  counted pick count goes_on c (e ∷ es) h =
       let o : Outcome = outcome_of rules c e in
-      frames_counted (given rules c e) es (frames_stop c.frames o h) ∙ frames_next c.frames o (outcomes_of (heard rules (given rules c e) es))
-
-  faults_counted : (c : ChannelState) (es : List Event) → c.faults ≤ 4294967295 → (heard_after rules c es).faults ≡ capped (c.faults + length (faults_of (outcomes_of (heard rules c es))))
-  faults_counted c [] h = omega arith
-  faults_counted c (e ∷ es) h =
-      let o : Outcome = outcome_of rules c e in
-      faults_counted (given rules c e) es (faults_stop c.faults o h) ∙ faults_next c.faults o (outcomes_of (heard rules (given rules c e) es))
+      let later : List Outcome = outcomes_of (heard rules (given rules c e) es) in
+      counted pick count goes_on (given rules c e) es (rw (goes_on c e) (more_stops (count c) (pick o) h))
+      ∙ ap (λ (n : ℕ). capped (n + length (filter_map pick later))) (goes_on c e) ∙ more_next (count c) (pick o) (filter_map pick later)
 
   pub closing_told : (es : List Event) → ClosingTold (figures (heard_after rules fresh es)) (outcomes_of (heard rules fresh es))
   closing_told es =
       record {
-        frames = frames_counted fresh es (omega arith) ∙ ap (λ (n : ℕ). capped n) (omega arith);
-        faults = faults_counted fresh es (omega arith) ∙ ap (λ (n : ℕ). capped n) (omega arith);
+        frames = counted frame_in (λ c. c.frames) (λ c e. frames_more c.frames (outcome_of rules c e)) fresh es (omega arith) ∙ ap (λ (n : ℕ). capped n) (omega arith);
+        faults = counted fault_in (λ c. c.faults) (λ c e. faults_more c.faults (outcome_of rules c e)) fresh es (omega arith) ∙ ap (λ (n : ℕ). capped n) (omega arith);
       }
 
 -- The faults
@@ -152,13 +148,13 @@ no_fault : {p : ℕ} {o : Outcome} {z : PulseState} → ((f : Fault) → o ≡ F
 no_fault none = record { told = λ f h. absurd (none f h) }
 
 quiet_none : (f : Fault) → Quiet ≡ Failed f → ⊥
-quiet_none f h = let z : ◌≡◌ {A = ℕ} 0 1 = cc in omega arith
+quiet_none f h = cc
 
 skipped_none : (f : Fault) → Skipped ≡ Failed f → ⊥
-skipped_none f h = let z : ◌≡◌ {A = ℕ} 0 1 = cc in omega arith
+skipped_none f h = cc
 
 framed_none : {r : FrameRow} (f : Fault) → Framed r ≡ Failed f → ⊥
-framed_none f h = let z : ◌≡◌ {A = ℕ} 0 1 = cc in omega arith
+framed_none f h = cc
 
 -- a choice between two steps
 either : {p : ℕ} (b : Bool) {x y : Stepped} → ToldStep p x → ToldStep p y → ToldStep p (cond b x y)

@@ -10,6 +10,7 @@ use Rattle.receiver.specs.declared.answer.Answer.{Answer}
 use Rattle.receiver.specs.declared.answer.Answer.TheVariants.{Stepped, Refused}
 use Rattle.receiver.specs.declared.answer.Reports.{Reports}
 use Rattle.receiver.specs.declared.answer.Step.TheVariants.{A as StepA, B as StepB}
+use Rattle.receiver.specs.declared.answer.StepRefusal.{StepRefusal}
 use Rattle.receiver.specs.declared.answer.StepRefusal.TheVariants.{NoEvent}
 use Rattle.receiver.specs.Channels.{ChannelState}
 use Rattle.receiver.specs.Units.{Setup, UnitState, answer, answers, after, step_answer}
@@ -28,28 +29,29 @@ module _ {X Y : Type 0} (s : Setup X Y) (ca cb : ChannelState) where
   abbrev Says : List Event → List Event → Answer X Y → Type 0
   Says xs ys x = answer s (unit_at xs ys) StepCall ≡ x
 
-  refused_only : (xs ys : List Event) → Says xs ys (Refused NoEvent) → (xs ≡ []) × (ys ≡ [])
-  refused_only [] [] h = (refl, refl)
-  refused_only (e ∷ es) [] h = absurd (let z : ◌≡◌ {A = ℕ} 0 1 = cc in omega arith)
-  refused_only [] (f ∷ fs) h = absurd (let z : ◌≡◌ {A = ℕ} 0 1 = cc in omega arith)
-  refused_only (e ∷ es) (f ∷ fs) h =
-      (elim (ltb (time_of f) (time_of e)) as (λ b. step_answer s (unit_at (e ∷ es) (f ∷ fs)) (cond b (Some SideB) (Some SideA)) ≡ Refused NoEvent → ((e ∷ es) ≡ []) × ((f ∷ fs) ≡ [])) [
-        | true ↦ λ says. absurd (let z : ◌≡◌ {A = ℕ} 0 1 = cc in omega arith)
-        | false ↦ λ says. absurd (let z : ◌≡◌ {A = ℕ} 0 1 = cc in omega arith)
+  -- a step is refused only where both lists are at their end, and is refused there
+  pub refused_only : (xs ys : List Event) (r : StepRefusal) → Says xs ys (Refused r) → (xs ≡ []) × (ys ≡ [])
+  refused_only [] [] r h = (refl, refl)
+  refused_only (e ∷ es) [] r h = cc
+  refused_only [] (f ∷ fs) r h = cc
+  refused_only (e ∷ es) (f ∷ fs) r h =
+      (elim (ltb (time_of f) (time_of e)) as (λ b. step_answer s (unit_at (e ∷ es) (f ∷ fs)) (cond b (Some SideB) (Some SideA)) ≡ Refused r → ((e ∷ es) ≡ []) × ((f ∷ fs) ≡ [])) [
+        | true ↦ λ says. cc
+        | false ↦ λ says. cc
       ]) h
 
-  refused_then : (xs ys : List Event) → xs ≡ [] → ys ≡ [] → Says xs ys (Refused NoEvent)
+  pub refused_then : (xs ys : List Event) → xs ≡ [] → ys ≡ [] → Says xs ys (Refused NoEvent)
   refused_then [] [] a b = refl
-  refused_then (e ∷ es) ys a b = absurd (let z : ◌≡◌ {A = ℕ} 0 1 = cc in omega arith)
-  refused_then [] (f ∷ fs) a b = absurd (let z : ◌≡◌ {A = ℕ} 0 1 = cc in omega arith)
+  refused_then (e ∷ es) ys a b = cc
+  refused_then [] (f ∷ fs) a b = cc
 
   a_in_turn : (xs ys : List Event) (t : ℕ) (r : Reports X) (g : Event) → Says xs ys (Stepped (StepA t r)) → first ys ≡ Some g → t ≤ time_of g
-  a_in_turn xs [] t r g h n = absurd (let z : ◌≡◌ {A = ℕ} 0 1 = cc in omega arith)
-  a_in_turn [] (f ∷ fs) t r g h n = absurd (let z : ◌≡◌ {A = ℕ} 0 1 = cc in omega arith)
+  a_in_turn xs [] t r g h n = cc
+  a_in_turn [] (f ∷ fs) t r g h n = cc
   a_in_turn (e ∷ es) (f ∷ fs) t r g h n =
       (elim (ltb (time_of f) (time_of e)) as
       (λ b. ltb (time_of f) (time_of e) ≡ b → step_answer s (unit_at (e ∷ es) (f ∷ fs)) (cond b (Some SideB) (Some SideA)) ≡ Stepped (StepA t r) → t ≤ time_of g) [
-        | true ↦ λ test says. absurd (let z : ◌≡◌ {A = ℕ} 0 1 = cc in omega arith)
+        | true ↦ λ test says. cc
         | false ↦ λ test says.
             let told : time_of e ≡ t = cc in
             let same : f ≡ g = cc in
@@ -57,8 +59,8 @@ module _ {X Y : Type 0} (s : Setup X Y) (ca cb : ChannelState) where
       ]) refl h
 
   b_in_turn : (xs ys : List Event) (t : ℕ) (r : Reports Y) (g : Event) → Says xs ys (Stepped (StepB t r)) → first xs ≡ Some g → t < time_of g
-  b_in_turn [] ys t r g h n = absurd (let z : ◌≡◌ {A = ℕ} 0 1 = cc in omega arith)
-  b_in_turn (e ∷ es) [] t r g h n = absurd (let z : ◌≡◌ {A = ℕ} 0 1 = cc in omega arith)
+  b_in_turn [] ys t r g h n = cc
+  b_in_turn (e ∷ es) [] t r g h n = cc
   b_in_turn (e ∷ es) (f ∷ fs) t r g h n =
       (elim (ltb (time_of f) (time_of e)) as
       (λ b. ltb (time_of f) (time_of e) ≡ b → step_answer s (unit_at (e ∷ es) (f ∷ fs)) (cond b (Some SideB) (Some SideA)) ≡ Stepped (StepB t r) → t < time_of g) [
@@ -66,7 +68,7 @@ module _ {X Y : Type 0} (s : Setup X Y) (ca cb : ChannelState) where
             let told : time_of f ≡ t = cc in
             let same : e ≡ g = cc in
             omega (arith, ltb-true (time_of f) (time_of e) test, told, ap time_of same)
-        | false ↦ λ test says. absurd (let z : ◌≡◌ {A = ℕ} 0 1 = cc in omega arith)
+        | false ↦ λ test says. cc
       ]) refl h
 
 -- where a step that is asked for is answered by the unit as it is
@@ -78,7 +80,7 @@ in_turn {X} {Y} s u asked answered look =
     let ca : ChannelState = u.channel_a in
     let cb : ChannelState = u.channel_b in
     record {
-      refused_only_at_the_end = λ asks says. refused_only s ca cb u.left_a u.left_b (told (Refused NoEvent) asks says);
+      refused_only_at_the_end = λ asks says. refused_only s ca cb u.left_a u.left_b NoEvent (told (Refused NoEvent) asks says);
       refused_at_the_end = λ asks a b. look asks ∙ ap (λ (x : Answer X Y). Some x) (refused_then s ca cb u.left_a u.left_b a b);
       a_not_after_b = λ t r e asks says next. a_in_turn s ca cb u.left_a u.left_b t r e (told (Stepped (StepA t r)) asks says) next;
       b_before_a = λ t r e asks says next. b_in_turn s ca cb u.left_a u.left_b t r e (told (Stepped (StepB t r)) asks says) next;

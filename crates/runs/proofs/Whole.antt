@@ -59,7 +59,7 @@ module _ {M : Type 0} (f : Format M) where
   told_frames ks (Framed r ∷ os) e =
       let ks' : List Kept = kept_after f.size ks (Framed r) in
       ap (λ (xs : List (Placed M)). told_by f ks' ++ xs) (told_frames ks' os e)
-  told_frames ks (Failed g ∷ os) e = absurd (let z : ◌≡◌ {A = ℕ} 0 1 = cc in omega arith)
+  told_frames ks (Failed g ∷ os) e = cc
 
   -- a fault at the first outcome only drops the pairs that were kept
   record Begins (u : ℕ) (ks : List Kept) (os : List Outcome) : Type 0 where

@@ -3,10 +3,10 @@
 use Rattle.std.proofs.Common.{◌≡◌, ℕ, suc, ◌+◌, ◌-◌, ◌<◌, ◌≤◌, true, false, cond, leb, List, [], ◌∷◌, ◌++◌, length, take, drop, Some, None, Option, sym, refl, ap, ◌∙◌, subst, ap₂, inl, inr, append_assoc, arith, length-append, length-drop}
 use Rattle.std.proofs.lemmas.List.{drop-drop, drop-append-le, drop_at, take_at, length-map}
 use Rattle.std.proofs.ByRecursion.{All-push, All-drop}
+use Rattle.std.proofs.lemmas.Float.{T_from_true}
 use Rattle.std.proofs.lemmas.Bool.{cond-true, cond-false, cond_both, cases_lt, le-leb, lt-leb}
 use Rattle.serial.specs.Format.{Format, LawfulFormat}
 use Rattle.serial.specs.Windows.{Kept, last, pairs_of, first_place}
-use Rattle.serial.proofs.Truths.{so}
 use Rattle.serial.proofs.Runs.{last_last}
 use Rattle.runs.specs.Traces.{Placed}
 use Rattle.runs.specs.Law.{placed, starting_from}
@@ -80,7 +80,7 @@ module _ {M : Type 0} (f : Format M) (law : LawfulFormat f) (u : ℕ) where
       let la : length all ≡ length old + length new = length-append old new in
       cond_both (f.framed (pairs_of w)) _ _ (λ (rs : List (Placed M)). starting_from u rs ≡ [])
       (λ t.
-      let lp : length (pairs_of w) ≡ n = law.framed_in_length (pairs_of w) (so (f.framed (pairs_of w)) t) in
+      let lp : length (pairs_of w) ≡ n = law.framed_in_length (pairs_of w) (T_from_true (f.framed (pairs_of w)) t) in
       let lm : length (pairs_of w) ≡ length w = length-map w (λ x. x.pair) in
       let lw : length w ≡ length all - k = length-drop k all in
       let parts : w ≡ drop k old ++ new = drop-append-le k old new (omega arith) in

@@ -1,5 +1,6 @@
 -- What the answers of a unit tell of one channel.
 use Rattle.std.specs.Prelude.{ℕ, List, [], ◌∷◌, ◌++◌, map, Some, None, Option}
+use Rattle.std.specs.List.{flat_map}
 use Rattle.model.specs.declared.event.Event.{Event}
 use Rattle.model.specs.declared.side.Side.{Side}
 use Rattle.model.specs.declared.side.Side.TheVariants.{A as SideA, B as SideB}
@@ -14,11 +15,6 @@ use Rattle.receiver.specs.declared.answer.Step.TheVariants.{A as StepA, B as Ste
 use Rattle.receiver.specs.declared.answer.Answer.{Answer}
 use Rattle.receiver.specs.declared.answer.Answer.TheVariants.{Stepped, Refused, Reading}
 use Rattle.receiver.specs.Units.{Messages}
-
--- what each element gives, one after the other
-abbrev pub collect : {X Y : Type 0} → (X → List Y) → List X → List Y
-collect f [] = []
-collect f (x ∷ xs) = f x ++ collect f xs
 
 -- a step answer of one channel: the time that it names, and what was reported
 pub record Said (M : Type 0) : Type 0 where
@@ -36,7 +32,7 @@ own d (Reading o) = []
 
 -- the channel's step answers, in their order
 abbrev pub said_by : {X Y : Type 0} (d : Side) → List (Answer X Y) → List (Said (Messages X Y d))
-said_by d answered = collect (own d) answered
+said_by d answered = flat_map (own d) answered
 
 -- an event that a channel was given, and what it reported at it
 pub record Entry (M : Type 0) : Type 0 where
@@ -89,7 +85,7 @@ timed s = map (λ r. record { time = s.time; report = r }) (listed s.reports)
 
 -- all reports of a channel, with their times
 abbrev pub timed_reports : {M : Type 0} → List (Said M) → List (Timed M)
-timed_reports ss = collect timed ss
+timed_reports ss = flat_map timed ss
 
 -- the messages among the reports of a trace, with the places of their first frames
 pub record Placed (M : Type 0) : Type 0 where
@@ -102,4 +98,4 @@ messages_in (Some (Told p m)) = record { place = p; message = m } ∷ []
 messages_in (Some (CheckFailed f)) = []
 
 abbrev pub messages_of : {M : Type 0} → List (Entry M) → List (Placed M)
-messages_of tr = collect (λ x. messages_in x.said.serial) tr
+messages_of tr = flat_map (λ x. messages_in x.said.serial) tr

@@ -6,9 +6,9 @@ ghost use Rattle.receiver.specs.Receiving.{standing_new};
 ghost use Rattle.runs.specs.Law.{LawfulRun, AnsweredInTurn};
 ghost use Rattle.runs.specs.Running.{answers_of, left_by_all, RunsAsDefined};
 
+use model::feed::Feed;
 use model::source::EdgeSource;
 use receiver::answer::{Answer, Call};
-use receiver::fed::Feed;
 use receiver::unit::Receiver;
 use serial::format::SerialFormat;
 
@@ -34,7 +34,7 @@ pub struct NoRoom<U> {
     pub unit: U,
 }
 
-// The run without its law.
+// The run without its law, which is shown of what this promises: a wrong body is refused here, at the definition that it misses.
 fn make_run<SA: EdgeSource, SB: EdgeSource, FA: SerialFormat, FB: SerialFormat>(
     a: Feed<SA>,
     b: Feed<SB>,

@@ -3,13 +3,15 @@ use Rattle.std.proofs.Common.{◌≡◌, ℕ, zero, suc, ◌+◌, ◌-◌, ◌%�
 use native.Mathlib.Nat.{add-mod_left, add-mod_right, zero-mod, mod-add-mod}
 use Rattle.std.proofs.ByRecursion.{All-push}
 use Rattle.std.proofs.lemmas.List.{drop-drop, drop-append-le, drop_at, take_at, take-append-drop, take-map, drop-map, map-append, length-map}
+use Rattle.std.proofs.lemmas.Simd.{map-map}
+use Rattle.std.proofs.lemmas.Float.{T_from_true}
 use Rattle.std.proofs.lemmas.Bool.{cond-false, cond-true, false_from_ne_true, true≢false}
 use Rattle.serial.specs.declared.pair.Pair.{Pair}
 use Rattle.serial.specs.declared.report.SerialReport.{SerialReport}
 use Rattle.serial.specs.Format.{Format, LawfulFormat, joined, AllLawful}
 use Rattle.serial.specs.Windows.{Kept, last, pairs_of, first_place, judged, reported}
 use Rattle.serial.specs.Runs.{Came, kept_of, kept_after, answers, first_came, told_at, messages, JoinedListsToldWhole}
-use Rattle.serial.proofs.Truths.{so, is_so}
+use Rattle.serial.proofs.Truths.{is_so}
 
 -- what was kept of the last, and one more, is what is kept of all and that one
 pub last_last : {X : Type 0} (n : ℕ) (zs : List X) (y : X) → 1 ≤ n → last n (last n zs ++ y ∷ []) ≡ last n (zs ++ y ∷ [])
@@ -28,8 +30,7 @@ abbrev pub pairs_came : List Came → List Pair
 pairs_came xs = map (λ x. x.pair) xs
 
 pub pairs_kepts : (xs : List Came) → pairs_of (kepts xs) ≡ pairs_came xs
-pairs_kepts [] = refl
-pairs_kepts (x ∷ xs) = ap (λ (ps : List Pair). x.pair ∷ ps) (pairs_kepts xs)
+pairs_kepts xs = map-map (λ k. k.pair) kept_of xs
 
 first_kepts : (xs : List Came) → first_place (kepts xs) ≡ first_came xs
 first_kepts [] = refl
@@ -48,12 +49,11 @@ told_judged : {M : Type 0} (o : Option M) (place event : ℕ) → is_some o ≡ 
 told_judged (Some m) place event e = refl
 told_judged None place event e = absurd (true≢false (sym e))
 
--- past whole groups, what is left over is left over of all
-off_by : (n i k j : ℕ) → i + n ≡ j + k → j % n ≡ 0 → 1 ≤ k → k < n → i % n ≡ 0 → ⊥
-off_by n i k j e j0 some few i0 =
-    let r : k ≡ i % n =
-    sym (mod-eq_of_lt few) ∙ ap (λ (t : ℕ). t % n) (sym (zero-add k)) ∙ ap (λ (t : ℕ). (t + k) % n) (sym j0) ∙ mod-add-mod j n k
-    ∙ ap (λ (t : ℕ). t % n) (sym e) ∙ add-mod_right i n in
+-- past whole groups of n, some more but not n of them leave a remainder
+pub remains : (n i r : ℕ) → i % n ≡ 0 → 1 ≤ r → r < n → (i + r) % n ≡ 0 → ⊥
+remains n i r whole some few e =
+    let left : r ≡ (i + r) % n =
+    sym (mod-eq_of_lt few) ∙ ap (λ (k : ℕ). k % n) (sym (zero-add r)) ∙ ap (λ (k : ℕ). (k + r) % n) (sym whole) ∙ mod-add-mod i n r in
     omega arith
 
 module _ {M : Type 0} (f : Format M) (law : LawfulFormat f) where
@@ -105,8 +105,9 @@ module _ {M : Type 0} (f : Format M) (law : LawfulFormat f) where
       let n0 : 1 ≤ n = law.at_least_one in
       let window : take n (drop i (joined (ds ++ (a ++ b) ∷ []))) ≡ drop i seen =
       ap (λ (ps : List Pair). take n (drop i ps)) more ∙ ap (take n) (drop-append-le i seen b (omega arith)) ∙ take_at (drop i seen) b n full in
+      let same : length (joined ds) + length a ≡ i + n = omega arith in
       law.apart (ds ++ (a ++ b) ∷ []) (All-push (λ l. T (f.lawful l)) ds (a ++ b) all t) i
-      (off_by n i (length a) (length (joined ds)) (omega arith) (length_joined ds all) some few)
+      (λ e. remains n (length (joined ds)) (length a) (length_joined ds all) some few (ap (λ (k : ℕ). k % n) same ∙ add-mod_right i n ∙ e))
       (omega arith)
       (subst (λ (ps : List Pair). T (f.framed ps)) (sym window) m)
 
@@ -150,7 +151,7 @@ module _ {M : Type 0} (f : Format M) (law : LawfulFormat f) where
         let lc : length (pairs_came pre) ≡ length pre = length-map pre (λ x. x.pair) in
         cond-false (f.framed (pairs_of ks)) _ _
         (false_from_ne_true (f.framed (pairs_of ks))
-        (λ e. within_list ds (pairs_came pre) (pairs_came post) all t (omega arith) (omega arith) (subst (λ (ps : List Pair). T (f.framed ps)) (shown pre) (so (f.framed (pairs_of ks)) e))))
+        (λ e. within_list ds (pairs_came pre) (pairs_came post) all t (omega arith) (omega arith) (subst (λ (ps : List Pair). T (f.framed ps)) (shown pre) (T_from_true (f.framed (pairs_of ks)) e))))
 
     walk : (pre post : List Came) (x : Came) (ks : List Kept) (l : List Pair) → T (f.lawful l) → pairs_came (pre ++ x ∷ post) ≡ l → Like ks (kepts done ++ kepts pre)
         → answers f ks (x ∷ post) ≡ replicate (length post) None ++ told_at (first_came (pre ++ x ∷ post)) (f.told l) ∷ []
@@ -192,7 +193,7 @@ module _ {M : Type 0} (f : Format M) (law : LawfulFormat f) where
   run : (ls ds : List (List Pair)) (done xs : List Came) (ks : List Kept) → AllLawful f ls → AllLawful f ds → pairs_came done ≡ joined ds → pairs_came xs ≡ joined ls → Like ks (kepts done)
       → answers f ks xs ≡ messages f ls xs
   run [] ds done [] ks all all' came e like = refl
-  run [] ds done (x ∷ xs) ks all all' came e like = let z : ◌≡◌ {A = ℕ} (suc (length (pairs_came xs))) 0 = ap length e in absurd (omega arith)
+  run [] ds done (x ∷ xs) ks all all' came e like = cc
   run (l ∷ ls) ds done xs ks all all' came e like =
       let n : ℕ = f.size in
       let lw : length l ≡ n = whole l all.0 in

@@ -1,10 +1,5 @@
--- A test that is passed, in both of its forms, and an answer that is given just where a test is passed.
-use Rattle.std.proofs.Common.{◌≡◌, Bool, true, false, cond, T, Some, None, is_some, sym, refl}
-use Rattle.std.proofs.lemmas.Bool.{true≢false}
-
-pub so : (b : Bool) → b ≡ true → T b
-so true e = tt
-so false e = absurd (true≢false (sym e))
+-- A test that is passed, and an answer that is given just where a test is passed.
+use Rattle.std.proofs.Common.{◌≡◌, Bool, true, false, cond, T, Some, None, is_some, refl}
 
 pub is_so : (b : Bool) → T b → b ≡ true
 is_so true t = refl

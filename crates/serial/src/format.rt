@@ -4,7 +4,9 @@ ghost use Rattle.serial.specs.Format.{Format, LawfulFormat};
 
 use crate::pair::Pair;
 
-// A format is known by which lists of pairs match its framing, which of these are lawful, and their messages.
+// A format is known by which lists of pairs match its framing, which of these are lawful, and their messages. The framing is the
+// bits that are the same in every message, by which one is found among the pairs; a list that matches it is lawful if the check that
+// it carries is that of its other bits.
 pub trait SerialFormat {
     // how many pairs a message has
     const L: usize;

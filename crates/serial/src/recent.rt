@@ -1,13 +1,17 @@
 // The last things that came, in fixed memory.
 ghost use Rattle.std.specs.Prelude.{◌≡◌, ◌+◌, ◌-◌, ◌<◌, ◌≤◌, List, [], ◌∷◌, ◌++◌, length, take, drop};
+ghost use Rattle.serial.specs.declared.recent.TheConstants.{ROOM};
 
 use std::marker::Model;
 
+// Three times what a window keeps at most, and more.
+const ROOM: usize = 64;
+
 // The `len` things kept stand from `start` on. A row that is longer lets them move on by one at each push, and back to the
-// front only now and then.
+// front only now and then. No ring, since a format reads them as one slice; no array vector, which would move all at each push.
 #[derive(Drop)]
 pub(crate) struct Recent<T> {
-    row: [T; 64],
+    row: [T; ROOM],
     start: usize,
     len: usize,
 }
@@ -18,7 +22,7 @@ impl<T> Model for Recent<T> {
 
     ghost view = { λ r. drop r.start (take (r.start + r.len) r.row) };
 
-    ghost invariant = { λ r. (r.start + r.len ≤ 64) × (r.len < 64) };
+    ghost invariant = { λ r. (r.start + r.len ≤ ROOM) × (r.len < ROOM) };
 }
 
 // Moves what stands from `from` on to the front.
@@ -37,7 +41,7 @@ impl<T: Copy> Recent<T> {
         ensures { result ≡ [] }
     {
         Recent {
-            row: [blank; 64],
+            row: [blank; ROOM],
             start: 0,
             len: 0,
         }
@@ -59,10 +63,10 @@ impl<T: Copy> Recent<T> {
     // Keeps one thing more, and of all the last `most`.
     pub(crate) fn push(&mut self, x: T, most: usize)
         requires some { 1 ≤ most }
-        requires few { most < 64 }
+        requires few { most < ROOM }
         ensures { self.new ≡ last most (self.old ++ x ∷ []) }
     {
-        if self.start + self.len == 64 {
+        if self.start + self.len == ROOM {
             to_front(&mut self.row, self.start);
             self.start = 0;
         }

@@ -1,5 +1,5 @@
 // The last pairs of a channel, and what they say.
-ghost use Rattle.std.specs.Prelude.{◌≡◌, [], ◌∷◌, ◌++◌, length};
+ghost use Rattle.std.specs.Prelude.{◌≡◌, ◌≤◌, [], ◌∷◌, ◌++◌, length};
 
 use crate::format::SerialFormat;
 use crate::pair::Pair;
@@ -14,6 +14,7 @@ pub struct Window<F> {
     places: Recent<u32>,
     format: PhantomData<F>,
     ghost even: { length pairs ≡ length places },
+    ghost few: { length pairs ≤ 18 },
 }
 
 impl<F: SerialFormat> Window<F> {

@@ -3,12 +3,13 @@ use Rattle.std.specs.Prelude.{◌≡◌, ℕ, ◌+◌, ◌<◌, true, not, T, Li
 use Rattle.std.proofs.Common.{sym, ap, ◌∙◌, subst, lit<, lit≤}
 use Rattle.std.proofs.Math.Nat.{le_antisymm, le-pred_of_lt}
 use Rattle.std.proofs.Math.Numerals.{add-one-le}
+use Rattle.std.proofs.lemmas.Float.{T_from_true}
 use Rattle.std.proofs.lemmas.Bool.{and_parts, eqb-true, not-true, both_ways}
 use Rattle.serial.specs.declared.pair.Pair.{Pair}
 use Rattle.serial.specs.Pairs.{blank}
 use Rattle.serial.specs.Format.{LawfulFormat}
 use Rattle.serial.proofs.Joined.{Inside, apart_from, stretch_at}
-use Rattle.serial.proofs.Truths.{so, is_so, some_told}
+use Rattle.serial.proofs.Truths.{is_so, some_told}
 use Rattle.serial_tests.specs.Doublets.{framed, lawful, doublet}
 
 in_length : (ps : List Pair) → framed ps ≡ true → length ps ≡ 2
@@ -38,7 +39,7 @@ doublet_lawful = record {
   at_least_one = lit≤ tt;
   at_most_18 = lit≤ tt;
   framed_in_length = λ ps t. in_length ps (is_so (framed ps) t);
-  lawful_is_framed = λ ps t. so (framed ps) (lawful_parts ps t).0;
+  lawful_is_framed = λ ps t. T_from_true (framed ps) (lawful_parts ps t).0;
   lawful_is_told = λ ps. some_told (lawful ps) (slice_index_or ps 1 blank).low;
   apart = apart_from doublet (lit≤ tt) (λ ps t. in_length ps (lawful_parts ps t).0) inside;
 }

@@ -1,7 +1,7 @@
 -- A frame with one edge moved: its pulses as they came, and what they give.
 use Rattle.std.proofs.Common.{◌≡◌, ℕ, zero, suc, ◌+◌, ◌-◌, ◌*◌, ◌/◌, ◌<◌, ◌≤◌, true, List, [], ◌∷◌, ◌++◌, length, take, sym, refl, ap, ◌∙◌, subst, ap₂, inl, inr, mul-le-mul_right, add-mul, arith, length-take}
 use Rattle.std.specs.List.{AllByRecursion}
-use Rattle.std.proofs.lemmas.List.{length-append, length-map}
+use Rattle.std.proofs.lemmas.List.{length-append, length-map, map-append}
 use Rattle.std.proofs.ByRecursion.{All-take}
 use Rattle.std.proofs.lemmas.Nat.{div_below, le-div}
 use Rattle.model.specs.declared.settings.Settings.{Settings}
@@ -45,8 +45,8 @@ long_enough c m x h r =
     omega (arith, r.lo)
 
 got : (c t : ℕ) (xs : List NibblePulse) {es es' : List Event} → AllByRecursion (Measures c) xs → OneMoved c es es' → es ≡ edges t xs → Got c t xs es'
-got c t [] r (here m tick near) e = absurd (let z : ◌≡◌ {A = ℕ} 0 1 = cc in omega arith)
-got c t (x ∷ []) r (here m tick near) e = absurd (let z : ◌≡◌ {A = ℕ} 0 1 = cc in omega arith)
+got c t [] r (here m tick near) e = cc
+got c t (x ∷ []) r (here m tick near) e = cc
 got c t (x ∷ y ∷ zs) r (here {p} {t = w} {t' = w'} {e = d} {es = ds} m tick near) e =
     let e0 : p ≡ x.place = cc in
     let e1 : w ≡ t + x.interval = cc in
@@ -64,7 +64,7 @@ got c t (x ∷ y ∷ zs) r (here {p} {t = w} {t' = w'} {e = d} {es = ds} m tick 
       shifted = between m tick (omega arith, omega arith) (omega arith);
       ends = ap (λ (i : ℕ). finish i zs) tb;
     }
-got c t [] r (later i) e = absurd (let z : ◌≡◌ {A = ℕ} 0 1 = cc in omega arith)
+got c t [] r (later i) e = cc
 got c t (x ∷ xs) r (later {e = d} {es = ds} {es' = ds'} i) e =
     let e0 : d ≡ Edge x.place (t + x.interval) = cc in
     let e1 : ds ≡ edges (t + x.interval) xs = cc in
@@ -147,10 +147,6 @@ small_front : (vs : List ℕ) (v : ℕ) → Nibbles (vs ++ v ∷ []) → Nibbles
 small_front [] y a = tt
 small_front (x ∷ xs) y a = (a.0, small_front xs y a.1)
 
-values_push : (xs : List NibblePulse) (y : NibblePulse) → values (xs ++ y ∷ []) ≡ values xs ++ y.value ∷ []
-values_push [] y = refl
-values_push (x ∷ xs) y = ap (λ (i : List ℕ). x.value ∷ i) (values_push xs y)
-
 -- what one frame gives at the edges that end its nibbles, the first of which starts at the time t
 pub record Turn (s : Settings) (u t : ℕ) (f : Sent) (h : Arrival) (es : List Event) : Type 0 where
   pub report : Outcome
@@ -182,7 +178,7 @@ module _ (s : Settings) (f : Sent) (r : Clean s f) (u t : ℕ) (es : List Event)
   same_data st v ds e q a =
       let ws : List ℕ = values f.body in
       let sent_is : values (nibbles_of f) ≡ f.status.value ∷ checked s ws =
-      ap (λ (i : List ℕ). f.status.value ∷ i) (values_push f.body f.check ∙ ap (λ (i : ℕ). ws ++ i ∷ []) r.fits) in
+      ap (λ (i : List ℕ). f.status.value ∷ i) (map-append (λ y. y.value) f.body (f.check ∷ []) ∙ ap (λ (i : ℕ). ws ++ i ∷ []) r.fits) in
       let got_is : readings f.calibration ys ≡ st ∷ checked s ds = e ∙ ap (λ (i : ℕ). st ∷ (ds ++ i ∷ [])) q in
       let near = subst (λ (i : List ℕ). MovedNeighbours i (st ∷ checked s ds)) sent_is
       (subst (λ (i : List ℕ). MovedNeighbours (values (nibbles_of f)) i) got_is (shifted_near s f.calibration r.passes came.shifted (measures r))) in

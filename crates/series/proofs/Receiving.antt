@@ -1,6 +1,7 @@
 -- Clean series are received.
 use Rattle.std.proofs.Common.{◌≡◌, ℕ, zero, suc, ◌+◌, ◌<◌, List, [], ◌∷◌, ◌++◌, length, take, drop, sym, refl, ap, ◌∙◌, subst, ap₂, append_assoc, arith}
 use Rattle.std.specs.List.{AllByRecursion}
+use Rattle.std.proofs.lemmas.List.Elements.{filter_map-append}
 use Rattle.model.specs.declared.settings.Settings.{Settings}
 use Rattle.model.specs.declared.event.Event.{Event}
 use Rattle.model.specs.declared.event.Event.TheVariants.{Edge}
@@ -10,9 +11,9 @@ use Rattle.pulses.specs.declared.outcome.Outcome.{Outcome}
 use Rattle.pulses.specs.declared.outcome.Outcome.TheVariants.{Quiet, Framed}
 use Rattle.pulses.specs.Steps.{PulseState, lost, inside, after_frame, step, outcomes, after}
 use Rattle.series.specs.Sent.{Sent, nibbles_of, frame_sent, edges, frame_edges, next_place, next_time, series, series_end, Clean}
-use Rattle.series.specs.Series.{frames_of, faults_of, Cut, past, frames_sent, Received, CleanSeriesReceived}
+use Rattle.series.specs.Series.{frame_in, fault_in, frames_of, faults_of, Cut, past, frames_sent, Received, CleanSeriesReceived}
 use Rattle.series.proofs.Opening.{Ready, after_frame_ready, Open, open_after, Mild, calm, cut_off, calibrates, begins}
-use Rattle.series.proofs.Runs.{outcomes_from, outcomes_append, outcomes_take, outcomes_past, frames_append, faults_append}
+use Rattle.series.proofs.Runs.{outcomes_from, outcomes_append, outcomes_take, outcomes_past}
 use Rattle.series.proofs.Reading.{PassesQuiet, past_quiets, none_yet, given, reads}
 
 -- outcomes that give exactly the frames sent
@@ -52,9 +53,9 @@ module _ (s : Settings) (g : Sent) (gr : Clean s g) (m : ℕ) (few : m < s.nibbl
       let run : outcomes s x (edges t' (nibbles_of f) ++ es) ≡ given u f ++ outcomes s (after_frame s f.check.place (next_time t f)) es =
       outcomes_append s x (edges t' (nibbles_of f)) es ∙ ap₂ (λ (os : List Outcome) (y : PulseState). os ++ outcomes s y es) w.out w.end in
       record {
-        frames = ap frames_of run ∙ frames_append (given u f) _
+        frames = ap frames_of run ∙ filter_map-append frame_in (given u f) _
             ∙ ap₂ (λ (rs qs : List FrameRow). rs ++ qs) (past_quiets quiet_frames (f.status ∷ f.body) (Framed (frame_sent u f) ∷ [])) b.frames;
-        no_fault = ap faults_of run ∙ faults_append (given u f) _
+        no_fault = ap faults_of run ∙ filter_map-append fault_in (given u f) _
             ∙ ap₂ (λ (rs qs : List Fault). rs ++ qs) (past_quiets quiet_faults (f.status ∷ f.body) (Framed (frame_sent u f) ∷ [])) b.no_fault;
       }
 
@@ -90,19 +91,19 @@ module _ (s : Settings) (g : Sent) (gr : Clean s g) (m : ℕ) (few : m < s.nibbl
       cut (suc j) l =
           let n = some_nibbles j u (t + g.calibration) (omega arith) in
           let b = begins s u t g.place g.calibration gr.passes i in
-          let run : outcomes s x (take (suc j) (frame_edges t g)) ≡ b.outcome ∷ outcomes s (inside g.place (t + g.calibration) u g.calibration []) (take j (edges (t + g.calibration) (nibbles_of g))) =
-          outcomes_from s x _ (take j (edges (t + g.calibration) (nibbles_of g))) b.is in
-          record { frames_exactly = ap frames_of run ∙ mild_frames _ b.mild ∙ n.frames; no_fault_after_calibration = ap (λ (os : List Outcome). faults_of (drop 1 os)) run ∙ n.no_fault }
+          let rest : List Outcome = outcomes s (inside g.place (t + g.calibration) u g.calibration []) (take j (edges (t + g.calibration) (nibbles_of g))) in
+          let run : outcomes s x (take (suc j) (frame_edges t g)) ≡ b.outcome ∷ rest = outcomes_from s x _ (take j (edges (t + g.calibration) (nibbles_of g))) b.is in
+          record { frames_exactly = ap frames_of run ∙ mild_frames rest b.mild ∙ n.frames; no_fault_after_calibration = ap (λ (os : List Outcome). faults_of (drop 1 os)) run ∙ n.no_fault }
   open_received (f ∷ fs) a u t {x} i =
       let t' : ℕ = t + f.calibration in
       let es : List Event = series (next_time t f) fs ++ take m (frame_edges (series_end (next_time t f) fs) g) in
       let n = then_more f a.0 u t fs es (λ y k. ready_exactly fs a.1 (next_place f) (next_time t f) k) in
       let b = begins s u t f.place f.calibration a.0.passes i in
-      let run : outcomes s x ((frame_edges t f ++ series (next_time t f) fs) ++ take m (frame_edges (series_end (next_time t f) fs) g))
-      ≡ b.outcome ∷ outcomes s (inside f.place t' u f.calibration []) (edges t' (nibbles_of f) ++ es) =
+      let rest : List Outcome = outcomes s (inside f.place t' u f.calibration []) (edges t' (nibbles_of f) ++ es) in
+      let run : outcomes s x ((frame_edges t f ++ series (next_time t f) fs) ++ take m (frame_edges (series_end (next_time t f) fs) g)) ≡ b.outcome ∷ rest =
       ap (outcomes s x) (append_assoc (frame_edges t f) (series (next_time t f) fs) _)
       ∙ outcomes_from s x _ (edges t' (nibbles_of f) ++ es) b.is in
-      record { frames_exactly = ap frames_of run ∙ mild_frames _ b.mild ∙ n.frames; no_fault_after_calibration = ap (λ (os : List Outcome). faults_of (drop 1 os)) run ∙ n.no_fault }
+      record { frames_exactly = ap frames_of run ∙ mild_frames rest b.mild ∙ n.frames; no_fault_after_calibration = ap (λ (os : List Outcome). faults_of (drop 1 os)) run ∙ n.no_fault }
 
 -- the outcomes of the rest, by the state after the cut
 pub past_cut : (s : Settings) {es : List Event} (c : Cut es) → past c (outcomes s lost es) ≡ outcomes s (step s (after s lost c.before) (Edge c.place c.time)).state c.rest

@@ -2,12 +2,8 @@
 use Rattle.std.proofs.Common.{◌≡◌, ℕ, zero, suc, ◌+◌, List, [], ◌∷◌, ◌++◌, length, take, drop, refl, ap, ◌∙◌, arith}
 use Rattle.model.specs.declared.settings.Settings.{Settings}
 use Rattle.model.specs.declared.event.Event.{Event}
-use Rattle.model.specs.declared.fault.Fault.{Fault}
-use Rattle.pulses.specs.declared.frame.FrameRow.{FrameRow}
 use Rattle.pulses.specs.declared.outcome.Outcome.{Outcome}
-use Rattle.pulses.specs.declared.outcome.Outcome.TheVariants.{Quiet, Skipped, Framed, Failed}
 use Rattle.pulses.specs.Steps.{PulseState, Stepped, gives, step, outcomes, after}
-use Rattle.series.specs.Series.{frames_of, faults_of}
 
 -- a run, by its outcomes and its end
 pub record Gives (s : Settings) (x : PulseState) (es : List Event) (os : List Outcome) (x' : PulseState) : Type 0 where
@@ -55,18 +51,3 @@ outcomes_past s x (b ∷ before) e rest =
   where
     longer : suc (length before) + 1 ≡ suc (length before + 1)
     longer = omega arith
-
--- what is among outcomes that join
-pub frames_append : (xs ys : List Outcome) → frames_of (xs ++ ys) ≡ frames_of xs ++ frames_of ys
-frames_append [] ys = refl
-frames_append (Quiet ∷ xs) ys = frames_append xs ys
-frames_append (Skipped ∷ xs) ys = frames_append xs ys
-frames_append (Framed r ∷ xs) ys = ap (λ (rs : List FrameRow). r ∷ rs) (frames_append xs ys)
-frames_append (Failed f ∷ xs) ys = frames_append xs ys
-
-pub faults_append : (xs ys : List Outcome) → faults_of (xs ++ ys) ≡ faults_of xs ++ faults_of ys
-faults_append [] ys = refl
-faults_append (Quiet ∷ xs) ys = faults_append xs ys
-faults_append (Skipped ∷ xs) ys = faults_append xs ys
-faults_append (Framed r ∷ xs) ys = faults_append xs ys
-faults_append (Failed f ∷ xs) ys = ap (λ (fs : List Fault). f ∷ fs) (faults_append xs ys)

@@ -1,6 +1,6 @@
 -- The laws of a channel's pulses: what a clean series gives, and one in which edges were moved.
-use Rattle.std.specs.Prelude.{◌≡◌, ℕ, ◌+◌, ◌<◌, Bool, true, false, List, [], ◌∷◌, ◌++◌, length, take, drop}
-use Rattle.std.specs.List.{AllByRecursion}
+use Rattle.std.specs.Prelude.{◌≡◌, ℕ, ◌+◌, ◌<◌, Bool, true, false, List, [], ◌∷◌, ◌++◌, length, take, drop, Some, None, Option}
+use Rattle.std.specs.List.{AllByRecursion, filter_map}
 use Rattle.model.specs.declared.settings.Settings.{Settings}
 use Rattle.model.specs.declared.event.Event.{Event}
 use Rattle.model.specs.declared.event.Event.TheVariants.{Edge}
@@ -11,20 +11,25 @@ use Rattle.pulses.specs.declared.outcome.Outcome.TheVariants.{Quiet, Skipped, Fr
 use Rattle.pulses.specs.Frames.{packed, six}
 use Rattle.series.specs.Sent.{Sent, values, frame_sent, frame_edges, next_place, next_time, series, series_end, Clean, Arrival, as_sent, moved, sent_of, nibble_edges, arrival_edges, arrivals, arrivals_end, Tolerable, AllTolerable}
 
+-- the frame that an outcome brings, and the fault
+abbrev pub frame_in : Outcome → Option FrameRow
+frame_in Quiet = None
+frame_in Skipped = None
+frame_in (Framed r) = Some r
+frame_in (Failed f) = None
+
+abbrev pub fault_in : Outcome → Option Fault
+fault_in Quiet = None
+fault_in Skipped = None
+fault_in (Framed r) = None
+fault_in (Failed f) = Some f
+
 -- the frames among outcomes, the faults, and both together
 abbrev pub frames_of : List Outcome → List FrameRow
-frames_of [] = []
-frames_of (Quiet ∷ os) = frames_of os
-frames_of (Skipped ∷ os) = frames_of os
-frames_of (Framed r ∷ os) = r ∷ frames_of os
-frames_of (Failed f ∷ os) = frames_of os
+frames_of os = filter_map frame_in os
 
 abbrev pub faults_of : List Outcome → List Fault
-faults_of [] = []
-faults_of (Quiet ∷ os) = faults_of os
-faults_of (Skipped ∷ os) = faults_of os
-faults_of (Framed r ∷ os) = faults_of os
-faults_of (Failed f ∷ os) = f ∷ faults_of os
+faults_of os = filter_map fault_in os
 
 abbrev pub reports_of : List Outcome → List Outcome
 reports_of [] = []

@@ -8,7 +8,7 @@ ghost use Rattle.series.specs.Series.{CleanSeriesReceived, MovedEdgesTolerated};
 use model::event::{Event, TIME_LIMIT};
 use model::settings::Settings;
 use pulses::decoder::Decoder;
-use pulses::outcome::{Outcome, StepRefusal};
+use pulses::outcome::Outcome;
 
 // Why a run over a list of events is not made.
 #[derive(Clone, Copy, PartialEq, Eq, Debug)]
@@ -17,18 +17,6 @@ pub enum RunRefusal {
     Room,
     // the time of an event is 2^40 counts or more
     Late,
-}
-
-impl From<StepRefusal> for RunRefusal {
-    ghost use Rattle.series.specs.declared.decoding.RunRefusal.TheVariants.{Late};
-
-    ghost from_gives = { λ _ refusal. refusal ≡ Late };
-
-    fn from(refusal: StepRefusal) -> RunRefusal {
-        match refusal {
-            StepRefusal::Late => RunRefusal::Late,
-        }
-    }
 }
 
 // Whether every event's time is below the limit.
@@ -60,7 +48,7 @@ pub fn decode(
     out.clear();
     for event in events {
         // every time is below the limit: no step is refused
-        out.push_reserved(decoder.step(*event)?);
+        out.push_reserved(decoder.step(*event).unwrap());
     }
     Ok(decoder)
 }

@@ -7,13 +7,12 @@ use captures::counter::CounterCapture;
 use formats::enhanced::Enhanced;
 use formats::short::Short;
 use receiver::answer::Closing;
-use receiver::fed::Feed;
 use receiver::unit::Receiver;
 use std::io::Read;
-use unitfile::file::UnitFile;
+use unitfile::file::{MOST_BYTES, UnitFile};
 
 // One byte more than a unit file may have, so that a longer one is seen to be too long.
-const READ_AT_MOST: u64 = 60_001;
+const READ_AT_MOST: u64 = MOST_BYTES as u64 + 1;
 
 fn main(rt: HostRuntime) -> anyhow::Result<()> {
     let mut input = Vec::new(rt.alloc());
@@ -34,17 +33,8 @@ fn main(rt: HostRuntime) -> anyhow::Result<()> {
 
 // The unit owns its sources from here on, and closing takes the unit. A capture that is to be read again is opened again.
 fn counted(file: &UnitFile<'_>) -> Closing {
-    let (counter, log) = file.open();
-    let mut unit: Receiver<CounterCapture, AbsoluteLog, Short, Enhanced> = Receiver::new(
-        Feed {
-            source: counter,
-            settings: file.a.settings,
-        },
-        Feed {
-            source: log,
-            settings: file.b.settings,
-        },
-    );
+    let (a, b) = file.open();
+    let mut unit: Receiver<CounterCapture, AbsoluteLog, Short, Enhanced> = Receiver::new(a, b);
     while let Ok(_) = unit.step() {}
     unit.close()
 }

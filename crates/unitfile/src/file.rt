@@ -1,5 +1,5 @@
 // A unit file, read field by field.
-ghost use Rattle.std.specs.Prelude.{◌≡◌, true, false, IfOk, Some, None, MatchOption, MatchResult};
+ghost use Rattle.std.specs.Prelude.{⊤, ◌≡◌, true, false, IfOk, Some, None, MatchOption, MatchResult};
 ghost use Rattle.model.specs.declared.side.Side.TheVariants.{A as ChannelA, B as ChannelB};
 ghost use Rattle.records.specs.Kinds.{Counter as CounterKind, Log as LogKind};
 ghost use Rattle.captures.specs.Times.{capture_events};
@@ -9,11 +9,14 @@ ghost use Rattle.unitfile.specs.Files.{file_number, file_record, file_side, head
 use captures::absolute::AbsoluteLog;
 use captures::capture::Capture;
 use captures::counter::CounterCapture;
+use captures::events::Timing;
 use captures::sound::Sound;
+use model::feed::Feed;
 use model::settings::{Settings, SettingsRefusal};
 use model::side::Side;
 use records::checking::CheckRefusal;
 use records::record::{Counter, Log, Recording};
+use std::alloc::AllocError;
 
 // The most bytes that a unit file may have.
 pub const MOST_BYTES: usize = 60_000;
@@ -27,18 +30,41 @@ pub struct Head {
 }
 
 // What a unit file holds of one channel: how it is set up, and its capture, which is accepted.
-#[derive(Drop)]
+// Copied as a whole, as the capture is.
 pub struct UnitChannel<'a, K: Recording> {
     pub settings: Settings,
     pub capture: Sound<'a, K>,
 }
 
+impl<'a, K: Recording> Clone for UnitChannel<'a, K> {
+    ghost is_clone = { λ x y. y ≡ x };
+
+    ghost is_infallible = { λ _. ⊤ };
+
+    fn clone(&self) -> Result<UnitChannel<'a, K>, AllocError> {
+        Ok(*self)
+    }
+}
+
+impl<'a, K: Recording> Copy for UnitChannel<'a, K> {}
+
 // What a unit file holds: a counter capture for channel A, and an absolute log for channel B.
-#[derive(Drop)]
 pub struct UnitFile<'a> {
     pub a: UnitChannel<'a, Counter>,
     pub b: UnitChannel<'a, Log>,
 }
+
+impl<'a> Clone for UnitFile<'a> {
+    ghost is_clone = { λ x y. y ≡ x };
+
+    ghost is_infallible = { λ _. ⊤ };
+
+    fn clone(&self) -> Result<UnitFile<'a>, AllocError> {
+        Ok(*self)
+    }
+}
+
+impl<'a> Copy for UnitFile<'a> {}
 
 // Why a unit file is refused.
 #[derive(Clone, Copy, PartialEq, Eq, Debug)]
@@ -63,7 +89,7 @@ impl FileRefusal {
         }
     }
 
-    // The record that is named, or 0 where none is.
+    // The record that is named, or 0 where none is: the line of a refusal has 0 for its last field then.
     pub fn place(self) -> u32
         ensures { result ≡ file_record self }
     {
@@ -114,6 +140,7 @@ fn read_layout(bytes: &[u8]) -> Option<(Part<'_>, Part<'_>)>
     let (mark, rest) = bytes.split_first_chunk::<2>()?;
     let (head_a, rest) = rest.split_first_chunk::<9>()?;
     let (head_b, captures) = rest.split_first_chunk::<9>()?;
+    // a mark is compared letter by letter, as every mark is, and is not stripped as bytes
     let [first, second] = *mark;
     if first as char != 'S' || second as char != 'U' {
         return None;
@@ -139,17 +166,29 @@ fn read_layout(bytes: &[u8]) -> Option<(Part<'_>, Part<'_>)>
 // What a channel's part holds, or why it is refused: its settings, then its capture.
 fn read_channel<'a, K: Recording>(
     side: Side,
-    head: Head,
-    capture: &'a [u8],
+    part: Part<'a>,
 ) -> Result<UnitChannel<'a, K>, FileRefusal>
     requires { kind_of side ≡ K.kind }
-    ensures { MatchResult result (λ c. (channel_refused side head.calibration head.nibbles capture.now ≡ None) × (c.settings.calibration ≡ head.calibration) × (c.settings.nibbles ≡ head.nibbles) × (c.capture.bytes.now ≡ capture.now)) (λ e. channel_refused side head.calibration head.nibbles capture.now ≡ Some e) }
+    ensures { MatchResult result (λ c. (channel_refused side part.entry.head.calibration part.entry.head.nibbles part.entry.capture.now ≡ None) × (c.settings.calibration ≡ part.entry.head.calibration) × (c.settings.nibbles ≡ part.entry.head.nibbles) × (c.capture.bytes.now ≡ part.entry.capture.now)) (λ e. channel_refused side part.entry.head.calibration part.entry.head.nibbles part.entry.capture.now ≡ Some e) }
 {
-    let settings = Settings::new(head.calibration, head.nibbles).map_err(
+    let settings = Settings::new(part.head.calibration, part.head.nibbles).map_err(
         |why| FileRefusal::Channel { side, why },
     )?;
-    let capture = Sound::check(capture).map_err(|why| FileRefusal::Capture { side, why })?;
+    let capture = Sound::check(part.capture).map_err(|why| FileRefusal::Capture { side, why })?;
     Ok(UnitChannel { settings, capture })
+}
+
+impl<'a, K: Timing> UnitChannel<'a, K> {
+    // What the channel is fed from: its capture, which is not checked again, under its settings.
+    pub fn open(&self) -> Feed<Capture<'a, K>>
+        ensures events { source_left result.source ≡ capture_events K.kind self.now.capture.bytes.now }
+        ensures settings { result.settings ≡ self.now.settings }
+    {
+        Feed {
+            source: Capture::open_sound(&self.capture),
+            settings: self.settings,
+        }
+    }
 }
 
 impl<'a> UnitFile<'a> {
@@ -160,19 +199,18 @@ impl<'a> UnitFile<'a> {
         ensures encodings_accepted { EncodingsAccepted bytes.now result }
     {
         let (a, b) = read_layout(bytes).ok_or(FileRefusal::Layout)?;
-        let a = read_channel(Side::A, a.head, a.capture)?;
-        let b = read_channel(Side::B, b.head, b.capture)?;
+        let a = read_channel(Side::A, a)?;
+        let b = read_channel(Side::B, b)?;
         Ok(UnitFile { a, b })
     }
 
-    // Sources of both captures, of which neither is checked again.
-    pub fn open(&self) -> (CounterCapture<'a>, AbsoluteLog<'a>)
-        ensures a { source_left result.0 ≡ capture_events CounterKind (capture_a self.now) }
-        ensures b { source_left result.1 ≡ capture_events LogKind (capture_b self.now) }
+    // What both channels are fed from.
+    pub fn open(&self) -> (Feed<CounterCapture<'a>>, Feed<AbsoluteLog<'a>>)
+        ensures a { source_left result.0.source ≡ capture_events CounterKind (capture_a self.now) }
+        ensures settings_a { result.0.settings ≡ self.now.a.settings }
+        ensures b { source_left result.1.source ≡ capture_events LogKind (capture_b self.now) }
+        ensures settings_b { result.1.settings ≡ self.now.b.settings }
     {
-        (
-            Capture::open_sound(&self.a.capture),
-            Capture::open_sound(&self.b.capture),
-        )
+        (self.a.open(), self.b.open())
     }
 }

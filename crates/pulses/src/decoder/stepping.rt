@@ -20,8 +20,8 @@ fn failed(kind: FaultKind, place: u32) -> Outcome
     Outcome::Failed(Fault { kind, place })
 }
 
-// The state that a frame leaves at the edge that ends it, whether or not its check fitted. It is a function of the settings, so
-// that a head that pauses after a frame can differ here.
+// The state that a frame leaves at the edge that ends it, whether or not its check fitted. Every head goes on alike, and this is
+// the one place where the settings decide it: a head that pauses after a frame can differ here.
 fn after_frame(settings: Settings, edge: LastEdge) -> State
     ensures { result ≡ State.Expecting edge }
 {
@@ -59,7 +59,8 @@ impl Decoder {
             return Err(StepRefusal::Late);
         }
         let settings = self.settings;
-        // Each state has arms of its own: a pattern `A | B` is not proved where a state holds a frame that keeps facts.
+        // Each state has arms of its own: a pattern `A | B` is not proved where a state holds a frame that keeps facts. An arm takes
+        // the edge from its event, as a break has none: its place and time are the last edge then.
         match (self.state, event) {
             (_, Event::Break { place, .. }) => {
                 self.state = State::Lost;

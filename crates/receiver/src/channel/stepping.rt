@@ -21,14 +21,10 @@ use serial::window::Window;
 fn reading(settings: Settings, row: FrameRow) -> u16
     ensures { result ≡ reading settings row }
 {
-    let [first, second, third, _, _, _] = row.frame().nibbles();
-    let one = u16::from(first);
-    let two = one * 16 + u16::from(second);
-    match settings.nibbles() {
-        1 => one,
-        2 => two,
-        _ => two * 16 + u16::from(third),
-    }
+    let read = usize::from(settings.nibbles().min(3));
+    row.frame().nibbles()[..read]
+        .iter()
+        .fold(0, |code, nibble| (code << 4) | u16::from(*nibble))
 }
 
 impl<F: SerialFormat> Channel<F> {
@@ -40,8 +36,10 @@ impl<F: SerialFormat> Channel<F> {
             decoder: Decoder::prepare(settings),
             window: Window::new(),
             latest: None,
-            frames: 0,
-            faults: 0,
+            figures: Figures {
+                frames: 0,
+                faults: 0,
+            },
         }
     }
 
@@ -55,13 +53,13 @@ impl<F: SerialFormat> Channel<F> {
             Outcome::Quiet | Outcome::Skipped => None,
             Outcome::Framed(row) => {
                 self.latest = Some(row);
-                self.frames = self.frames.saturating_add(1);
+                self.figures.frames = self.figures.frames.saturating_add(1);
                 self.window
                     .take(Pair::of_status(row.status), row.place, event.place())
             }
             Outcome::Failed(_) => {
                 self.latest = None;
-                self.faults = self.faults.saturating_add(1);
+                self.figures.faults = self.figures.faults.saturating_add(1);
                 self.window.empty();
                 None
             }
@@ -80,9 +78,6 @@ impl<F: SerialFormat> Channel<F> {
     pub fn figures(&self) -> Figures
         ensures { result ≡ figures self.now.state }
     {
-        Figures {
-            frames: self.frames,
-            faults: self.faults,
-        }
+        self.figures
     }
 }

@@ -7,7 +7,8 @@ ghost use Rattle.receiver.specs.declared.answer.Subject.TheVariants.{Reading as 
 
 use super::Receiver;
 use crate::answer::{Answer, Call, Closing, Step, StepRefusal, Subject};
-use crate::fed::{FedChannel, Feed};
+use crate::fed::FedChannel;
+use model::feed::Feed;
 use model::side::Side;
 use model::source::EdgeSource;
 use serial::format::SerialFormat;
@@ -43,7 +44,8 @@ impl<SA: EdgeSource, SB: EdgeSource, FA: SerialFormat, FB: SerialFormat> Receive
         }
     }
 
-    // The event of the smaller time, channel A's where both are equal, is taken and given to its channel.
+    // The event of the smaller time, channel A's where both are equal, is taken and given to its channel. That what is left is lawful
+    // stands in each contract: of a type with a model a caller sees the value alone, and no fact of the fields.
     pub fn step(&mut self) -> Result<Step<FA::Message, FB::Message>, StepRefusal>
         ensures answer { answered result ≡ answer_of FA.meaning FB.meaning self.old StepCall }
         ensures left { self.new ≡ left_by FA.meaning FB.meaning self.old StepCall }

@@ -1,5 +1,6 @@
 use Rattle.std.proofs.Common.{◌≡◌, ℕ, List, ◌++◌, length, sym, ap, ◌∙◌, subst, ap₂, arith}
 use Rattle.model.specs.declared.event.Event.{Event}
+use Rattle.model.specs.declared.settings.Settings.{Settings}
 use Rattle.model.specs.declared.side.Side.TheVariants.{A as SideA, B as SideB}
 use Rattle.model.specs.Events.{Lawful}
 use Rattle.records.specs.Kinds.{Counter, Log}
@@ -26,8 +27,8 @@ returns-in-Ok c =
     let xs = c.args.input.now in
     let file : UnitFile = c.in-Ok.file in
     let read = c.in-Ok.ensures.contents in
-    let left_a = source_left c.open.result.0 in
-    let left_b = source_left c.open.result.1 in
+    let left_a = source_left c.open.result.0.source in
+    let left_b = source_left c.open.result.1.source in
     let a : left_a ≡ file_lists xs SideA = c.open.ensures.a ∙ ap (capture_events Counter) read.read_a in
     let b : left_b ≡ file_lists xs SideB = c.open.ensures.b ∙ ap (capture_events Log) read.read_b in
     let sa = file.a.settings in
@@ -39,9 +40,10 @@ returns-in-Ok c =
           file,
           record {
             file_read = read;
-            lines = c.list_unit.ensures.items ∙ ap (λ (zs : List ℕ). zs ++ unit_listing sa sb (new (lists left_a left_b))) c.requires.0
+            lines = c.list_unit.ensures.items ∙ ap (λ (zs : List ℕ). zs ++ unit_listing c.open.result.0.settings c.open.result.1.settings (new (lists left_a left_b))) c.requires.0
+                ∙ ap₂ (λ (s t : Settings). unit_listing s t (new (lists left_a left_b))) c.open.ensures.settings_a c.open.ensures.settings_b
                 ∙ ap₂ (λ (es fs : List Event). unit_listing sa sb (new (lists es fs))) a b;
-            lawful = lawful_listing xs file (subst Lawful a (source_lawful c.open.result.0)) (subst Lawful b (source_lawful c.open.result.1));
+            lawful = lawful_listing xs file (subst Lawful a (source_lawful c.open.result.0.source)) (subst Lawful b (source_lawful c.open.result.1.source));
           },
         );
       };

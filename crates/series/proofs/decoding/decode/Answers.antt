@@ -1,9 +1,9 @@
-use Rattle.std.proofs.Common.{◌≡◌, ℕ, zero, suc, ◌+◌, ◌^◌, ◌<◌, ◌≤◌, true, ltb, List, [], ◌∷◌, ◌++◌, length, get_or, drop, None, vec_items, vec_capacity, sym, ap, ◌∙◌, subst, ap₂, append_assoc, append-nil, arith, rules}
+use Rattle.std.proofs.Common.{◌≡◌, ℕ, ◌+◌, ◌<◌, ◌≤◌, true, ltb, List, [], ◌∷◌, ◌++◌, length, get_or, drop, None, vec_items, vec_capacity, sym, ap, ◌∙◌, subst, ap₂, append_assoc, append-nil, arith, rules}
 use Rattle.std.proofs.lemmas.List.{at_drop_more, at_drop_all}
-use Rattle.std.proofs.lemmas.Bool.{le-ltb, ltb-true, and_parts, cond-true, cond-false}
+use Rattle.std.proofs.lemmas.Result.{MatchResult-at_ok}
+use Rattle.std.proofs.lemmas.Bool.{le-ltb, cond-true, cond-false}
 use Rattle.model.specs.declared.settings.Settings.{Settings}
 use Rattle.model.specs.declared.event.Event.{Event}
-use Rattle.model.specs.Events.{time_of}
 use Rattle.pulses.specs.declared.outcome.Outcome.{Outcome}
 use Rattle.pulses.specs.Decoding.{state_of}
 use Rattle.series.specs.Running.{in_time, run_refused}
@@ -29,29 +29,15 @@ module _ (s : Settings) {j : Settings} (x : PulseState) {y : PulseState} {o : Ou
       let end' : y ≡ (step s x (get_or es i d)).state = end ∙ ap (λ (k : Settings). (step k x (get_or es i d)).state) same in
       ap (λ (z : PulseState). after s z (drop (i + 1) es)) end' ∙ sym (at_drop_more (after s x) es i d l)
 
--- the time of each event that is in time
-in_time_at : (es : List Event) (i : ℕ) (d : Event) → in_time es ≡ true → i < length es → time_of (get_or es i d) < 2 ^ 40
-in_time_at [] i d h l = absurd (omega (arith, l))
-in_time_at (e ∷ es) zero d h l = ltb-true (time_of e) (2 ^ 40) (and_parts (ltb (time_of e) (2 ^ 40)) (in_time es) h).0
-in_time_at (e ∷ es) (suc i) d h l = in_time_at es i d (and_parts (ltb (time_of e) (2 ^ 40)) (in_time es) h).1 (omega (arith, l))
-
-none_late : (es : List Event) (i : ℕ) (d : Event) → in_time es ≡ true → i < length es → 2 ^ 40 ≤ time_of (get_or es i d) → ⊥
-none_late es i d h l late = omega (arith, in_time_at es i d h l, late)
-
-pub returns-in_err-step-clause-answer : goal.returns-in_err-step-clause-answer
-returns-in_err-step-clause-answer c =
-    let all : in_time c.args.events.now ≡ true = sym c.all_in_time.ensures ∙ search rules in
-    absurd (none_late c.args.events.now c.loop-event.event-index _ all c.loop-event-test.true c.in_err-step.ensures.answer.0)
-
 pub loop-event-preserved : goal.loop-event-preserved
 loop-event-preserved c =
     let inv = c.loop-event.invariant in
     let s : Settings = c.prepare-decoder.result.settings in
-    let a = c.in_ok-step.ensures in
+    let a = MatchResult-at_ok _ _ c.unwrap.result c.unwrap.ensures c.step.ensures.answer in
     let l : c.loop-event.event-index < length c.args.events.now = omega arith in (
-      outcomes_on s (state_of c.loop-event.decoder) c.args.events.now c.loop-event.event-index _ l inv.2 a.answer.1 a.answer.2 (vec_items c.loop-event.out) c.push_reserved.ensures.items ∙ inv.0,
-      after_on s (state_of c.loop-event.decoder) c.args.events.now c.loop-event.event-index _ l inv.2 a.answer.1 a.answer.2 ∙ inv.1,
-      a.settings_stay ∙ inv.2,
+      outcomes_on s (state_of c.loop-event.decoder) c.args.events.now c.loop-event.event-index _ l inv.2 a.1 a.2 (vec_items c.loop-event.out) c.push_reserved.ensures.items ∙ inv.0,
+      after_on s (state_of c.loop-event.decoder) c.args.events.now c.loop-event.event-index _ l inv.2 a.1 a.2 ∙ inv.1,
+      c.step.ensures.settings_stay ∙ inv.2,
       search rules,
       search rules,
       c.push_reserved.ensures.capacity ∙ inv.5,

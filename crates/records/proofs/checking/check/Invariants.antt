@@ -1,7 +1,7 @@
 use Rattle.std.proofs.Common.{◌≡◌, ◌+◌, ◌≤◌, length}
 use Rattle.records.specs.Records.{records}
 use Rattle.records.specs.Checked.{first_flaw}
-use Rattle.records.proofs.checking.verdict.Given as goal
+use Rattle.records.proofs.checking.check.Given as goal
 
 -- the first flaw is among the records that are left, of which the first has the place counted so far
 abbrev pub invariant-loop-place : goal.invariant-loop-place
