@@ -20,7 +20,7 @@ length_stamps kind w (r ∷ rs) = ap suc (length_stamps kind (wraps_after w (sta
 
 none_there : (o : Option CheckRefusal) → IsNone o → o ≡ None
 none_there None e = refl
-none_there (Some x) e = let z : ◌≡◌ {A = ℕ} 0 1 = cc in absurd (omega arith)
+none_there (Some x) e = cc
 
 pub counted : (kind : Kind) (xs : List ℕ) → IsNone (checked kind xs) → length xs / size kind ≡ record_count kind xs
 counted kind xs e =

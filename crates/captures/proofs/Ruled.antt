@@ -86,7 +86,7 @@ later_so t None k = tt
 later_so t (Some u) k = ltb-true u t k
 
 later_not : (t : ℕ) (l : Option ℕ) → is_later t l ≡ false → Later t l → ⊥
-later_not t None k h = let z : ◌≡◌ {A = ℕ} 0 1 = cc in omega arith
+later_not t None k h = cc
 later_not t (Some u) k h = omega (arith, ltb-false u t k)
 
 -- a record with a time keeps the rule
@@ -103,8 +103,8 @@ timed_by_rule kind before given place r gives says e =
 -- a record without a flaw that says neither a time nor a wrap says a loss
 loss_left : (marked lossy : Bool) (v : ℕ) → cond marked (cond lossy (zero_filler v) (Some Mark)) (Some Mark) ≡ None → lossy ≡ true
 loss_left true true v e = refl
-loss_left true false v e = let z : ◌≡◌ {A = ℕ} 0 1 = cc in absurd (omega arith)
-loss_left false lossy v e = let z : ◌≡◌ {A = ℕ} 0 1 = cc in absurd (omega arith)
+loss_left true false v e = cc
+loss_left false lossy v e = cc
 
 -- a record without a flaw keeps the rule, if its event is that of its stamp
 by_rule : (kind : Kind) (before : List Record) (given : List Event) (place : ℕ) (r : Record) (gives : Option Event)

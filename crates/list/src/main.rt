@@ -4,9 +4,10 @@
 use anyhow::{anyhow, ensure};
 use listing::file::{Verdict, list, room_for};
 use std::io::{Read, Write};
+use unitfile::file::MOST_BYTES;
 
 // One byte more than a unit file may have, so that a longer one is seen to be too long.
-const READ_AT_MOST: u64 = 60_001;
+const READ_AT_MOST: u64 = MOST_BYTES as u64 + 1;
 
 fn main(rt: HostRuntime) -> anyhow::Result<()> {
     let mut input = Vec::new(rt.alloc());

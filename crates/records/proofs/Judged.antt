@@ -12,7 +12,7 @@ use Rattle.records.specs.Verdicts.{RightLength, Flawless, FirstBad, RefusedByThe
 
 passed : (p : ℕ) (f : Option Flaw) (later : Option CheckRefusal) → flawed_or p f later ≡ None → (f ≡ None) × (later ≡ None)
 passed p None later e = (refl, e)
-passed p (Some f) later e = let z : ◌≡◌ {A = ℕ} 0 1 = cc in absurd (omega arith)
+passed p (Some f) later e = cc
 
 -- no flaw is found exactly if no record has one
 flawless_so : (kind : Kind) (p : ℕ) (rs : List Record) → first_flaw kind p rs ≡ None → Flawless kind rs
@@ -31,10 +31,10 @@ same_place p q g f e = (cc, cc)
 
 -- and is none for the length
 not_length : (p : ℕ) (f : Flaw) → ◌≡◌ {A = Option CheckRefusal} (Some (flawed_at p f)) (Some Length) → ⊥
-not_length p f e = let z : ◌≡◌ {A = ℕ} 0 1 = cc in omega arith
+not_length p f e = cc
 
 never_length : (kind : Kind) (p : ℕ) (rs : List Record) → first_flaw kind p rs ≡ Some Length → ⊥
-never_length kind p [] e = let z : ◌≡◌ {A = ℕ} 0 1 = cc in omega arith
+never_length kind p [] e = cc
 never_length kind p (r ∷ rs) e =
     (elim (flaw_of kind r) as (λ o. flawed_or p o (first_flaw kind (p + 1) rs) ≡ Some Length → ⊥) [
       | None ↦ λ h. never_length kind (p + 1) rs h
@@ -53,7 +53,7 @@ record BadFrom (kind : Kind) (p : ℕ) (rs : List Record) (q : ℕ) (f : Flaw) :
 
 -- a flaw that is found is that of the first bad record
 bad_so : (kind : Kind) (p : ℕ) (rs : List Record) (q : ℕ) (f : Flaw) → first_flaw kind p rs ≡ Some (flawed_at q f) → BadFrom kind p rs q f
-bad_so kind p [] q f e = let z : ◌≡◌ {A = ℕ} 0 1 = cc in absurd (omega arith)
+bad_so kind p [] q f e = cc
 bad_so kind p (r ∷ rs) q f e =
     (elim (flaw_of kind r) as (λ o. flaw_of kind r ≡ o → flawed_or p o (first_flaw kind (p + 1) rs) ≡ Some (flawed_at q f) → BadFrom kind p (r ∷ rs) q f) [
       | None ↦ λ sound h.
@@ -115,7 +115,7 @@ module _ (kind : Kind) (xs : List ℕ) where
   of_wrong_length : (RightLength kind xs → ⊥) → checked kind xs ≡ Some Length → RefusedByTheFirstBadRecord kind xs
   of_wrong_length wrong same =
       record {
-        accepts = (λ e. let z : ◌≡◌ {A = ℕ} 0 1 = cc in absurd (omega arith), λ h. absurd (wrong h.0));
+        accepts = (λ e. cc, λ h. absurd (wrong h.0));
         refuses_length = (λ _. wrong, λ _. same);
         names = λ p f. (λ e. absurd (not_length p f (sym e ∙ same)), λ h. absurd (wrong h.0));
       }

@@ -68,7 +68,7 @@ record Accepted (xs : List ℕ) : Type 0 where
 
 first_of : {X : Type 0} (a b : Option X) → or_else a b ≡ None → (a ≡ None) × (b ≡ None)
 first_of None b e = (refl, e)
-first_of (Some x) b e = let z : ◌≡◌ {A = ℕ} 0 1 = cc in absurd (omega arith)
+first_of (Some x) b e = cc
 
 accepted : (xs : List ℕ) → file_refused xs ≡ None → Accepted xs
 accepted xs e =
@@ -76,7 +76,7 @@ accepted xs e =
       | true ↦ λ t h.
           let both = first_of (side_refused ChannelA xs) (side_refused ChannelB xs) h in
           record { whole = grind (arith, nat_tests); mark = (grind (arith, nat_tests), grind (arith, nat_tests)); filled = grind (arith, nat_tests); sound_a = both.0; sound_b = both.1 }
-      | false ↦ λ t h. let z : ◌≡◌ {A = ℕ} 0 1 = cc in absurd (omega arith)
+      | false ↦ λ t h. cc
     ]) refl e
 
 capture_sound : (side : Side) (k n : ℕ) (c : List ℕ) → channel_refused side k n c ≡ None → checked (kind_of side) c ≡ None
@@ -84,7 +84,7 @@ capture_sound side k n c e =
     let both = first_of (settings_refused side (refused k n)) (capture_refused side (checked (kind_of side) c)) e in
     (elim (checked (kind_of side) c) as (λ r. capture_refused side r ≡ None → r ≡ None) [
       | None ↦ λ h. refl
-      | Some w ↦ λ h. let z : ◌≡◌ {A = ℕ} 0 1 = cc in absurd (omega arith)
+      | Some w ↦ λ h. cc
     ]) both.1
 
 -- a file that is accepted is the encoding of settings that were read of it and of its two captures

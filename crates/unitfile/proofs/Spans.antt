@@ -17,7 +17,7 @@ continued_more (Some s) e es = refl
 -- where no event is left, nothing is
 pub none_left : (es : List Event) → None ≡ first es → es ≡ []
 none_left [] e = refl
-none_left (x ∷ xs) e = let z : ◌≡◌ {A = ℕ} 0 1 = cc in absurd (omega arith)
+none_left (x ∷ xs) e = cc
 
 -- what was counted is all, where nothing is left
 pub counted_all : (n m : ℕ) → n < 2 ^ 32 → capped (n + 0) ≡ m → n ≡ m

@@ -1,5 +1,5 @@
 // A unit file, read field by field.
-ghost use Rattle.std.specs.Prelude.{⊤, ◌≡◌, true, false, IfOk, Some, None, MatchOption, MatchResult};
+ghost use Rattle.std.specs.Prelude.{◌≡◌, true, false, IfOk, Some, None, MatchOption, MatchResult};
 ghost use Rattle.model.specs.declared.side.Side.TheVariants.{A as ChannelA, B as ChannelB};
 ghost use Rattle.records.specs.Kinds.{Counter as CounterKind, Log as LogKind};
 ghost use Rattle.captures.specs.Times.{capture_events};
@@ -16,7 +16,6 @@ use model::settings::{Settings, SettingsRefusal};
 use model::side::Side;
 use records::checking::CheckRefusal;
 use records::record::{Counter, Log, Recording};
-use std::alloc::AllocError;
 
 // The most bytes that a unit file may have.
 pub const MOST_BYTES: usize = 60_000;
@@ -30,41 +29,18 @@ pub struct Head {
 }
 
 // What a unit file holds of one channel: how it is set up, and its capture, which is accepted.
-// Copied as a whole, as the capture is.
+#[derive(Clone, Copy)]
 pub struct UnitChannel<'a, K: Recording> {
     pub settings: Settings,
     pub capture: Sound<'a, K>,
 }
 
-impl<'a, K: Recording> Clone for UnitChannel<'a, K> {
-    ghost is_clone = { λ x y. y ≡ x };
-
-    ghost is_infallible = { λ _. ⊤ };
-
-    fn clone(&self) -> Result<UnitChannel<'a, K>, AllocError> {
-        Ok(*self)
-    }
-}
-
-impl<'a, K: Recording> Copy for UnitChannel<'a, K> {}
-
 // What a unit file holds: a counter capture for channel A, and an absolute log for channel B.
+#[derive(Clone, Copy)]
 pub struct UnitFile<'a> {
     pub a: UnitChannel<'a, Counter>,
     pub b: UnitChannel<'a, Log>,
 }
-
-impl<'a> Clone for UnitFile<'a> {
-    ghost is_clone = { λ x y. y ≡ x };
-
-    ghost is_infallible = { λ _. ⊤ };
-
-    fn clone(&self) -> Result<UnitFile<'a>, AllocError> {
-        Ok(*self)
-    }
-}
-
-impl<'a> Copy for UnitFile<'a> {}
 
 // Why a unit file is refused.
 #[derive(Clone, Copy, PartialEq, Eq, Debug)]
