@@ -24,6 +24,13 @@ pub struct Capture<'a, K: Timing> {
     ghost lawful: { ∥ Lawful (pending next (ahead K.kind behind)) ∥₁ },
 }
 
+// An open capture, and whether it is sound.
+#[derive(Drop)]
+pub struct Checked<'a, K: Timing> {
+    pub source: Capture<'a, K>,
+    pub check: Result<(), CheckRefusal>,
+}
+
 impl<'a, K: Timing> Capture<'a, K> {
     ghost use Rattle.captures.specs.Parts.{has_part, part_of};
     ghost use Rattle.captures.specs.Times.{capture_events, in_order, event_at, record_count};
@@ -48,6 +55,10 @@ impl<'a, K: Timing> Capture<'a, K> {
     pub fn part(bytes: &'a [u8], first: u32, last: u32) -> Result<&'a [u8], PartRefusal>
         ensures { MatchResult result (λ p. (has_part K.kind bytes.now first last ≡ true) × (p.now ≡ part_of K.kind bytes.now first last)) (λ _. has_part K.kind bytes.now first last ≡ false) }
     {
+        // told before the check, which reads the whole capture
+        if first > last {
+            return Err(PartRefusal::NoSuchPart);
+        }
         let sound = Sound::<K>::check(bytes).map_err(|_| PartRefusal::NoSuchPart)?;
         sound.part(first, last)
     }
@@ -60,6 +71,25 @@ impl<'a, K: Timing> Capture<'a, K> {
     {
         let sound = Sound::check(bytes).unwrap_or(Sound::empty());
         Self::open_sound(&sound)
+    }
+
+    // The same source, and what the check that this takes gave.
+    pub fn open_checked(bytes: &'a [u8]) -> Checked<'a, K>
+        ensures check { MatchResult result.check (λ _. checked K.kind bytes.now ≡ None) (λ e. checked K.kind bytes.now ≡ Some e) }
+        ensures events { source_left result.source ≡ capture_events K.kind bytes.now }
+        ensures those_of_the_places_in_order { source_left result.source ≡ in_order (event_at K.kind bytes.now) (record_count K.kind bytes.now) }
+        ensures each_event_by_its_rule { EventsByRule K.kind bytes.now }
+    {
+        match Sound::check(bytes) {
+            Ok(sound) => Checked {
+                source: Self::open_sound(&sound),
+                check: Ok(()),
+            },
+            Err(why) => Checked {
+                source: Self::open_sound(&Sound::empty()),
+                check: Err(why),
+            },
+        }
     }
 
     // The same of a capture that was accepted, with no further check.
