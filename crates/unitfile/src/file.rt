@@ -1,10 +1,10 @@
 // A unit file, read field by field.
-ghost use Rattle.std.specs.Prelude.{◌≡◌, true, false, IfOk, Some, None, MatchOption, MatchResult};
+ghost use Rattle.std.specs.Prelude.{◌≡◌, true, false, [], length, take, drop, IfOk, Some, None, MatchOption, MatchResult};
 ghost use Rattle.model.specs.declared.side.Side.TheVariants.{A as ChannelA, B as ChannelB};
 ghost use Rattle.records.specs.Kinds.{Counter as CounterKind, Log as LogKind};
 ghost use Rattle.captures.specs.Times.{capture_events};
 ghost use Rattle.captures.specs.Sources.{source_left};
-ghost use Rattle.unitfile.specs.Files.{file_number, file_record, file_side, head_at, laid_out, channel_refused, kind_of, file_refused, capture_a, capture_b, PartRead, FileRead, Encoding, EncodingsAccepted};
+ghost use Rattle.unitfile.specs.Files.{file_number, file_record, file_side, head_at, laid_out, channel_refused, kind_of, file_refused, first_capture, second_capture, capture_a, capture_b, PartRead, FileRead, Encoding, EncodingsAccepted};
 
 use captures::absolute::AbsoluteLog;
 use captures::capture::Capture;
@@ -19,6 +19,9 @@ use records::record::{Counter, Log, Recording};
 
 // The most bytes that a unit file may have.
 pub const MOST_BYTES: usize = 60_000;
+
+// The bytes before the captures.
+const HEADER: usize = 20;
 
 // What the header says of one channel.
 #[derive(Clone, Copy, PartialEq, Eq, Debug)]
@@ -40,6 +43,30 @@ pub struct UnitChannel<'a, K: Recording> {
 pub struct UnitFile<'a> {
     pub a: UnitChannel<'a, Counter>,
     pub b: UnitChannel<'a, Log>,
+}
+
+// What the header says, without the captures: the settings of both channels, and the length of A's capture. It borrows nothing, and
+// `captures` finds the captures in the bytes again.
+#[derive(Clone, Copy)]
+pub struct Outline {
+    pub a: Settings,
+    pub b: Settings,
+    pub length_a: u32,
+}
+
+// A's counter capture and B's absolute log.
+#[derive(Clone, Copy)]
+pub struct Captures<'a> {
+    pub a: &'a [u8],
+    pub b: &'a [u8],
+}
+
+// A unit file that was read and whose captures are open. Both sources have no event where the file is refused.
+#[derive(Drop)]
+pub struct OpenFile<'a> {
+    pub counter: CounterCapture<'a>,
+    pub log: AbsoluteLog<'a>,
+    pub file: Result<UnitFile<'a>, FileRefusal>,
 }
 
 // Why a unit file is refused.
@@ -188,5 +215,57 @@ impl<'a> UnitFile<'a> {
         ensures settings_b { result.1.settings ≡ self.now.b.settings }
     {
         (self.a.open(), self.b.open())
+    }
+
+    // What was read, without the captures and with no borrow of the bytes.
+    pub fn outline(&self) -> Outline
+        ensures settings { (result.a ≡ self.now.a.settings) × (result.b ≡ self.now.b.settings) }
+        ensures length_of_a { result.length_a ≡ length (capture_a self.now) }
+    {
+        Outline {
+            a: self.a.settings,
+            b: self.b.settings,
+            length_a: self.a.capture.bytes.len() as u32,
+        }
+    }
+}
+
+// The bytes up to a place and those behind it; where there are fewer, all of them and none.
+fn parted<'a>(bytes: &'a [u8], at: usize) -> Captures<'a>
+    ensures front { result.a.now ≡ take at bytes.now }
+    ensures back { result.b.now ≡ drop at bytes.now }
+{
+    let (a, b) = bytes.split_at(at.min(bytes.len()));
+    Captures { a, b }
+}
+
+impl Outline {
+    // The captures of the file that this was read of; where the bytes are fewer, what there is.
+    pub fn captures<'a>(&self, bytes: &'a [u8]) -> Captures<'a>
+        ensures a { result.a.now ≡ first_capture self.now.length_a bytes.now }
+        ensures b { result.b.now ≡ second_capture self.now.length_a bytes.now }
+    {
+        parted(parted(bytes, HEADER).b, self.length_a as usize)
+    }
+}
+
+impl<'a> OpenFile<'a> {
+    // What a unit file holds, or why it is refused, with both captures opened: each is checked once for both.
+    pub fn read(bytes: &'a [u8]) -> OpenFile<'a>
+        ensures contents { MatchResult result.file (λ u. FileRead bytes.now u) (λ e. file_refused bytes.now ≡ Some e) }
+        ensures events { MatchResult result.file (λ u. (source_left result.counter ≡ capture_events CounterKind (capture_a u)) × (source_left result.log ≡ capture_events LogKind (capture_b u))) (λ _. (source_left result.counter ≡ []) × (source_left result.log ≡ [])) }
+    {
+        match UnitFile::read(bytes) {
+            Ok(file) => OpenFile {
+                counter: Capture::open_sound(&file.a.capture),
+                log: Capture::open_sound(&file.b.capture),
+                file: Ok(file),
+            },
+            Err(why) => OpenFile {
+                counter: Capture::open(&[]),
+                log: Capture::open(&[]),
+                file: Err(why),
+            },
+        }
     }
 }
