@@ -28,10 +28,18 @@ fn make_calls<SA: EdgeSource, SB: EdgeSource, FA: SerialFormat, FB: SerialFormat
     }
 }
 
-// Why a run is not made: the list lent has not room for an answer to each call. The unit comes back.
+// Why a run is not made.
+#[derive(Clone, Copy, PartialEq, Eq, Debug)]
+pub enum RunRefusal {
+    // the list lent has not room for an answer to each call
+    Room,
+}
+
+// A run that is not made: the unit comes back, beside the reason, which can be kept without it.
 #[derive(Drop)]
 pub struct NoRoom<U> {
     pub unit: U,
+    pub why: RunRefusal,
 }
 
 // The run without its law, which is shown of what this promises: a wrong body is refused here, at the definition that it misses.
@@ -45,7 +53,10 @@ fn make_run<SA: EdgeSource, SB: EdgeSource, FA: SerialFormat, FB: SerialFormat>(
 {
     let mut unit = Receiver::new(a, b);
     if out.capacity() < calls.len() {
-        return Err(NoRoom { unit });
+        return Err(NoRoom {
+            unit,
+            why: RunRefusal::Room,
+        });
     }
     out.clear();
     make_calls(&mut unit, calls, out);
