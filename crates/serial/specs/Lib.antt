@@ -1,4 +1,5 @@
 pub mod Format
 pub mod Pairs
+pub mod Rows
 pub mod Runs
 pub mod Windows

@@ -20,7 +20,7 @@ paired (p ∷ ps) (n ∷ ns) = record { pair = p; place = n } ∷ paired ps ns
 
 -- what a window keeps, oldest first
 abbrev pub kept : {F : Type 0} → Window F → List Kept
-kept w = paired w.pairs w.places
+kept w = paired w.last.firsts w.last.seconds
 
 -- the last n of a list, or all if there are fewer
 abbrev pub last : {X : Type 0} → ℕ → List X → List X

@@ -10,11 +10,10 @@ use std::marker::PhantomData;
 // The pairs kept, and the places of their frames: two rows, since a format reads the pairs as one slice.
 #[derive(Drop)]
 pub struct Window<F> {
-    pairs: Recent<Pair>,
-    places: Recent<u32>,
+    last: Recent<Pair, u32>,
     format: PhantomData<F>,
-    ghost even: { length pairs ≡ length places },
-    ghost few: { length pairs ≤ 18 },
+    ghost even: { length last.firsts ≡ length last.seconds },
+    ghost few: { length last.firsts ≤ 18 },
 }
 
 impl<F: SerialFormat> Window<F> {
@@ -31,8 +30,7 @@ impl<F: SerialFormat> Window<F> {
             low: false,
         };
         Window {
-            pairs: Recent::new(blank),
-            places: Recent::new(0),
+            last: Recent::new(blank, 0),
             format: PhantomData,
         }
     }
@@ -41,22 +39,21 @@ impl<F: SerialFormat> Window<F> {
     pub fn empty(&mut self)
         ensures { kept self.new ≡ [] }
     {
-        self.pairs.clear();
-        self.places.clear();
+        self.last.clear();
     }
 
     // The place of the oldest frame kept.
     fn first_place(&self) -> u32
         ensures { result ≡ first_place (kept self.now) }
     {
-        self.places.as_slice().first().copied().unwrap_or(0)
+        self.last.seconds().first().copied().unwrap_or(0)
     }
 
     // What the pairs kept say at an event.
     fn judge(&self, event: u32) -> Option<SerialReport<F::Message>>
         ensures { result ≡ reported F.SerialFormat.meaning (kept self.now) event }
     {
-        let pairs = self.pairs.as_slice();
+        let pairs = self.last.firsts();
         F::matches(pairs).then(|| SerialReport::judged(
             F::message(pairs),
             self.first_place(),
@@ -66,12 +63,12 @@ impl<F: SerialFormat> Window<F> {
 
     // Takes the pair of a frame with the frame's place, at the event that ended the frame.
     // If the pairs kept then match the framing, they tell a message or, where the check does not fit, a fault at the event.
+    #[tactic(auto, using(crate::proofs::Rows::kept_more))]
     pub fn take(&mut self, pair: Pair, place: u32, event: u32) -> Option<SerialReport<F::Message>>
         ensures kept { kept self.new ≡ last F.SerialFormat.meaning.size (kept self.old ++ record { pair = pair; place = place } ∷ []) }
         ensures report { result ≡ reported F.SerialFormat.meaning (kept self.new) event }
     {
-        self.pairs.push(pair, F::L);
-        self.places.push(place, F::L);
+        self.last.push(pair, place, F::L);
         self.judge(event)
     }
 }
