@@ -170,7 +170,10 @@ impl Recording for Log {
     fn first_record(bytes: &[u8]) -> Option<Cut<'_>> {
         let (first, rest) = bytes.split_first_chunk::<8>()?;
         let [mark, letter, a, b, c, d, e, f] = *first;
-        let value = u64::from_be_bytes([0, 0, a, b, c, d, e, f]);
+        // of two numbers, which takes fewer steps than one of eight bytes with zeros before
+        let high = u64::from(u16::from_be_bytes([a, b]));
+        let low = u64::from(u32::from_be_bytes([c, d, e, f]));
+        let value = high * 0x1_0000_0000 + low;
         let record = Record {
             mark,
             letter,
