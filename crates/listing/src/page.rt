@@ -75,8 +75,19 @@ impl<const N: usize> Page<N> {
         self.push(b'\n');
     }
 
-    // A number in decimal.
+    // A number in decimal. Of one digit, as most of a short line, it is written without a count of its digits.
     pub(crate) fn decimal(&mut self, n: u64)
+        requires { length self.old + length (decimal n) ≤ N }
+        ensures { self.new ≡ self.old ++ decimal n }
+    {
+        if n < 10 {
+            self.push(b'0' + n as u8);
+        } else {
+            self.digits(n);
+        }
+    }
+
+    fn digits(&mut self, n: u64)
         requires { length self.old + length (decimal n) ≤ N }
         ensures { self.new ≡ self.old ++ decimal n }
     {
