@@ -42,7 +42,7 @@ impl Layer {
     pub fn digit(self) -> u16
         ensures { result ≡ digit self }
     {
-        self as u16
+        self as u16 // its digit is declared with it
     }
 }
 
@@ -50,7 +50,7 @@ impl FaultKind {
     pub fn number(self) -> u16
         ensures { result ≡ number self }
     {
-        self as u16
+        self as u16 // its number is declared with it
     }
 
     // The layer whose digit begins the fault's number.
